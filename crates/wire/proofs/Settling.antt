@@ -1,0 +1,62 @@
+-- The laws that finish any writer: a refusal leaves the output, and a packet stored from its start is the reply.
+-- Assumes nothing.
+use Prim.Native.Nat.{ℕ, _+_, _-_, _≤_, _<_}
+use mathlib.Core.Path.{_≡_, refl, sym, _∙_, subst}
+use mathlib.Core.List.{List, [], _++_, append-nil, append-assoc}
+use native.Mathlib.Nat.{zero-add}
+use native.Mathlib.Omega.{arith}
+use borrow.Author.Tests.{le-leb, lt-leb}
+use lib.ListN.{length, take, drop, length-drop, drop-of-length-le}
+use lib.Seq.{sets, sets-eq, drop-drop, take-all, take-length, length-take-le}
+use borrow.Rule.Slice.PartMut.{putMid, midOf}
+use Rattle.wire.specs.Checks.{Verdict, refused, taken}
+use Rattle.wire.specs.Reply.{Reply, answerOf, leftOf, Settled, within, settle}
+use Rattle.wire.specs.declared.output.Written.{Written}
+use Rattle.wire.specs.declared.output.Written.the-variants.{Refused, Bytes}
+
+-- a refusal
+pub refuses : (reply : Reply) (out : List ℕ) (n : ℕ) → reply ≡ refused n → Settled reply out (Refused n) out
+refuses reply out n e = rw e (record { answer = refl; bytes = refl })
+
+-- a packet stored from the output's start is followed by the output as it was
+pub stored : (packet out : List ℕ) → length packet ≤ length out → sets out 0 packet ≡ packet ++ drop (length packet) out
+stored packet out h = rw (sets-eq packet out 0 (omega arith), zero-add)
+
+-- a packet
+pub writes : (reply : Reply) (out packet left : List ℕ) (n : ℕ) → reply ≡ taken packet → n ≡ length packet → length packet ≤ length out → left ≡ sets out 0 packet → Settled reply out (Bytes n) left
+writes reply out packet left n e l h s = rw (e, l) (record { answer = refl; bytes = s ∙ stored packet out h })
+
+-- what is settled by a reply is settled by its equal
+pub settled-by : {reply other : Reply} {out left : List ℕ} {r : Written} → reply ≡ other → Settled reply out r left → Settled other out r left
+settled-by {out = out} {left = left} {r = r} e h = subst (λ (y : Reply). Settled y out r left) e h
+
+-- a packet with too little room, and one with enough
+pub no-room : (packet : List ℕ) (room : ℕ) → room < length packet → within room packet ≡ refused 9
+no-room packet room h = rw (lt-leb (length packet) room h)
+
+pub enough-room : (packet : List ℕ) (room : ℕ) → length packet ≤ room → within room packet ≡ taken packet
+enough-room packet room h = rw (le-leb (length packet) room h)
+
+-- bytes stored into as many bytes replace them
+pub replaced : (packet out : List ℕ) → length packet ≡ length out → sets out 0 packet ≡ packet
+replaced packet out h =
+    rw (stored packet out (omega arith), drop-of-length-le out {i = length packet} (omega arith), append-nil)
+
+-- a part of src copied to the front of the part of out that begins at the place `at` is stored at that place
+module _ (out src : List ℕ) (at from len : ℕ) (h : at + len ≤ length out) (k : from + len ≤ length src) where
+  abbrev rest : List ℕ
+  rest = midOf at (length out - at) out
+
+  abbrev part : List ℕ
+  part = midOf from (from + len - from) src
+
+  pub copied : (last : List ℕ) → last ≡ take (length part) part ++ drop (length part) rest → putMid at (length out - at) out last ≡ sets out at (take len (drop from src))
+  copied last e =
+      let s = take len (drop from src) in
+      let l : length s ≡ len = length-take-le len (drop from src) (rw length-drop (omega arith)) in
+      let same : part ≡ s = rw (add-sub from len) in
+      let whole : rest ≡ drop at out = take-all (length out - at) (drop at out) (rw length-drop (omega arith)) in
+      let none : drop (length out - at) (drop at out) ≡ [] = drop-of-length-le (drop at out) {i = length out - at} (rw length-drop (omega arith)) in
+      rw (e, same, take-length, whole, none, append-nil, drop-drop, sets-eq s out at (omega arith), append-assoc) where
+        add-sub : (m n : ℕ) → m + n - m ≡ n
+        add-sub m n = omega arith

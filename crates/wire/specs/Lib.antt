@@ -1,0 +1,5 @@
+pub mod Fields
+pub mod Checks
+pub mod Names
+pub mod Text
+pub mod Reply

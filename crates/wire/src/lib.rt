@@ -1,0 +1,7 @@
+// The words of the wire: kinds, refusal numbers, fields, text, and what is laid into lent output.
+pub mod fields;
+pub mod kinds;
+pub mod names;
+pub mod output;
+pub mod refusal;
+pub mod text;
