@@ -1,0 +1,8 @@
+pub mod Tests
+pub mod Said
+pub mod Upto
+pub mod Rounding
+pub mod Sound
+pub mod Waits
+pub mod Specimen
+mod Settled

@@ -1,0 +1,5 @@
+pub mod Milliseconds
+pub mod Answer
+pub mod Sheet
+pub mod Patience
+pub mod Silence
