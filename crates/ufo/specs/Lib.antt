@@ -1,0 +1,4 @@
+pub mod Down
+pub mod WriteDown
+pub mod Up
+pub mod WriteUp
