@@ -1,0 +1,8 @@
+pub mod Header
+pub mod Verdicts
+pub mod Taken
+pub mod Exactness
+pub mod Carried
+pub mod Order
+pub mod Specimen
+mod Settled

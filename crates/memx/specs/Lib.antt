@@ -1,0 +1,4 @@
+pub mod Packet
+pub mod Read
+pub mod Reading
+pub mod Writing
