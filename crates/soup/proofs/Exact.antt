@@ -1,0 +1,226 @@
+-- The reader takes exactly the lawful packets, with the same fields and the same bytes.
+-- Assumes nothing.
+use Prim.Native.Nat.{ℕ, _+_, _-_, _^_, _≤_, _<_}
+use mathlib.Core.Path.{_≡_, refl, sym, ap, _∙_}
+use mathlib.Core.Logic.{⊎-elim, ⊎-map}
+use mathlib.Core.List.{List, [], _∷_, _++_, append-assoc, append-nil}
+use mathlib.Core.Bool.{true, not}
+use native.Mathlib.Omega.{arith}
+use lib.Dec.{eqb, leb}
+use lib.ListN.{length, getD, drop, length-append, length-drop, length-take}
+use lib.Seq.{drop-cons}
+use borrow.Author.Tests.{eq-eqb, ne-eqb, le-leb, eqb-true, eqb-false, leb-true, not-true}
+use Rattle.wire.specs.Fields.{Bytes}
+use Rattle.wire.specs.Checks.{Verdict, taken, refused, checked, Passed}
+use Rattle.wire.specs.Text.{blank}
+use Rattle.wire.proofs.Checks.{all-passed, passed-all, not-both}
+use Rattle.wire.proofs.Width.{bytes-drop}
+use Rattle.soup.specs.Decimal.{wellFormed, valueOf, written}
+use Rattle.soup.specs.Packet.{Packet, debug, accept, reject, sequenced, serverHeartbeat, endOfSession, login, unsequenced, clientHeartbeat, logout, line, write, Payload, Fit}
+use Rattle.soup.specs.Read.{last, field, payload, unbroken, opening, lineChecks, sizedChecks, rejectChecks, acceptChecks, loginChecks, rejectOf, acceptOf, loginOf, readReject, readAccept, readLogin, byType, read}
+use Rattle.soup.proofs.Written.{read-written, written-read, length-written}
+use Rattle.soup.proofs.Linefeed.{unbroken-none, none-unbroken, more, append-unbroken, right-unbroken, left-unbroken, written-unbroken}
+use Rattle.soup.proofs.Lines.{length-line, last-line, front-line, payload-line, line-whole, two-bytes, payload-unbroken, length-field, fields-join, field-in}
+use Rattle.soup.proofs.Choices.{chosen, either, taken-same, bytes-take}
+
+-- ---- a lawful packet passes every check
+
+-- a line of a lawful size and without a linefeed inside, whatever the verdict on what it holds
+module _ (kind : ℕ) (s : List ℕ) (k : kind ≡ 10 → ⊥) (u : unbroken s ≡ true) where
+  opens : length s ≤ 4096 → Passed (opening (line kind s))
+  opens h =
+      let l = length-line kind s in
+      (le-leb 1 (length (line kind s)) (omega arith), (le-leb (length (line kind s)) 4098 (omega arith), tt))
+
+  ends : Passed (lineChecks (line kind s))
+  ends = (eq-eqb (last (line kind s)) 10 (last-line kind s), (rw front-line (more kind s k u), tt))
+
+  goes-on : (v : Verdict Packet) → length s ≤ 4096 → checked (opening (line kind s)) (checked (lineChecks (line kind s)) v) ≡ v
+  goes-on v h = passed-all (opening (line kind s)) _ (opens h) ∙ passed-all (lineChecks (line kind s)) v ends
+
+  goes-on-sized : (n : ℕ) (v : Verdict Packet) → length s + 2 ≡ n → length s ≤ 4096 → checked (opening (line kind s)) (checked (sizedChecks n (line kind s)) v) ≡ v
+  goes-on-sized n v l h =
+      passed-all (opening (line kind s)) _ (opens h)
+      ∙ passed-all (sizedChecks n (line kind s)) v (eq-eqb (length (line kind s)) n (length-line kind s ∙ l), ends)
+
+-- a payload, under any of the three types
+carries : (kind : ℕ) (s : List ℕ) (packet : List ℕ → Packet) → (kind ≡ 10 → ⊥) → Payload s → checked (opening (line kind s)) (checked (lineChecks (line kind s)) (taken (packet (payload (line kind s))))) ≡ taken (packet s)
+carries kind s packet k p =
+    goes-on kind s k (none-unbroken s (p .2)) (taken (packet (payload (line kind s)))) (p .1)
+    ∙ ap (λ (t : List ℕ). taken (packet t)) (payload-line kind s)
+
+accepts : (session : List ℕ) (number : ℕ) → Fit (accept session number) → acceptOf session (written number) ≡ taken (accept session number)
+unfolding Fit acceptOf
+accepts session number f =
+    let r = read-written number (f .3) in
+    rw (f .0 .1, r .formed, f .1, r .filled, r .value, ne-eqb number 0 (λ e. omega arith), le-leb number (2 ^ 64 - 1) (omega arith))
+
+logs-in : (user password session : List ℕ) (number : ℕ) → Fit (login user password session number) → loginOf user password session (written number) ≡ taken (login user password session number)
+unfolding Fit loginOf
+logs-in user password session number f =
+    let r = read-written number (f .3) in
+    rw (f .0 .1, f .1 .1, f .2 .1, r .formed, r .filled, r .value, le-leb number (2 ^ 64 - 1) (omega arith))
+
+-- Nothing lawful is refused: a lawful packet, written, is read as that packet, with its fields.
+pub written-is-read : (p : Packet) → Fit p → read (write p) ≡ taken p
+unfolding read Fit unbroken rejectOf
+written-is-read (debug text) f = carries 43 text debug (eqb-false 43 10 refl) f
+written-is-read (accept session number) f =
+    let w = written number in
+    let s = session ++ w in
+    let l : length s ≡ 30 = simp (length-append, length-written) (omega arith) in
+    let u : unbroken s ≡ true = append-unbroken session w (left-unbroken session (f .0 .1)) (written-unbroken number) in
+    goes-on-sized 65 s (eqb-false 65 10 refl) u 32 (acceptOf (field 1 10 (line 65 s)) (field 11 20 (line 65 s))) (omega arith) (omega arith)
+    ∙ rw (field-in 65 0 10 s [] session w refl refl (f .0 .0), field-in 65 10 20 s session w [] (rw append-nil) (f .0 .0) (length-written number)) (accepts session number f)
+written-is-read (reject reason) f = ⊎-elim (λ e. rw e) (λ e. rw e) f
+written-is-read (sequenced message) f = carries 83 message sequenced (eqb-false 83 10 refl) f
+written-is-read serverHeartbeat f = refl
+written-is-read endOfSession f = refl
+written-is-read (login user password session number) f =
+    let w = written number in
+    let s = user ++ password ++ session ++ w in
+    let l : length s ≡ 46 = simp (length-append, length-written) (omega arith) in
+    let u : unbroken s ≡ true =
+    append-unbroken (user ++ password ++ session) w
+    (append-unbroken (user ++ password) session
+    (append-unbroken user password (right-unbroken user (f .0 .1)) (right-unbroken password (f .1 .1)))
+    (left-unbroken session (f .2 .1)))
+    (written-unbroken number) in
+    let d = line 76 s in
+    goes-on-sized 76 s (eqb-false 76 10 refl) u 48 (loginOf (field 1 6 d) (field 7 10 d) (field 17 10 d) (field 27 20 d)) (omega arith) (omega arith)
+    ∙ rw (
+      field-in 76 0 6 s [] user (password ++ (session ++ w)) (simp append-assoc) refl (f .0 .0),
+      field-in 76 6 10 s user password (session ++ w) (simp append-assoc) (f .0 .0) (f .1 .0),
+      field-in 76 16 10 s (user ++ password) session w (append-assoc (user ++ password) session w) (simp length-append (omega arith)) (f .2 .0),
+      field-in 76 26 20 s (user ++ password ++ session) w [] (rw append-nil) (simp length-append (omega arith)) (length-written number),
+    ) (logs-in user password session number f)
+written-is-read (unsequenced message) f = carries 85 message unsequenced (eqb-false 85 10 refl) f
+written-is-read clientHeartbeat f = refl
+written-is-read logout f = refl
+
+-- ---- what is taken is lawful
+
+-- what the checks of a line tell
+module _ (d : List ℕ) (h : 2 ≤ length d) (p : Passed (lineChecks d)) where
+  ending : last d ≡ 10
+  ending = eqb-true (last d) 10 (p .0)
+
+  whole : line (getD d 0 0) (payload d) ≡ d
+  whole = line-whole d h ending
+
+  clean : unbroken (payload d) ≡ true
+  clean = payload-unbroken d h ending (p .1 .0)
+
+module _ (d : List ℕ) (b : Bytes d) (o : Passed (opening d)) (p : Packet) where
+  abbrev Lawful : Type 0
+  Lawful = Fit p × (write p ≡ d)
+
+  -- a payload, under any of the three types
+  carried : (kind : ℕ) (packet : List ℕ → Packet) → ((s : List ℕ) → Payload s → Fit (packet s)) → ((s : List ℕ) → write (packet s) ≡ line kind s) → (kind ≡ 10 → ⊥) → eqb (getD d 0 0) kind ≡ true → checked (lineChecks d) (taken (packet (payload d))) ≡ taken p → Lawful
+  carried kind packet fit laid k t e =
+      let r = all-passed (lineChecks d) (taken (packet (payload d))) p e in
+      let q : getD d 0 0 ≡ kind = eqb-true (getD d 0 0) kind t in
+      let h : 2 ≤ length d = two-bytes d (eqb-true (last d) 10 (r .0 .0)) (λ n. k (sym q ∙ n)) in
+      let l : length d ≤ 4098 = leb-true (length d) 4098 (o .1 .0) in
+      let m : length (payload d) ≤ 4096 = rw length-take (rw length-drop (omega arith)) in
+      rw (← taken-same (packet (payload d)) p (r .1)) (
+        fit (payload d) (bytes-take (length d - 2) (drop 1 d) (bytes-drop 1 d b), m, unbroken-none (payload d) (clean d h (r .0))),
+        laid (payload d) ∙ ap (λ (n : ℕ). line n (payload d)) (sym q) ∙ whole d h (r .0),
+      )
+
+  -- a line of a fixed size, whatever the verdict on what it holds
+  module _ (n : ℕ) (N : 2 ≤ n) (v : Verdict Packet) (e : checked (sizedChecks n d) v ≡ taken p) where
+    passed : Passed (sizedChecks n d) × (v ≡ taken p)
+    passed = all-passed (sizedChecks n d) v p e
+
+    size : length d ≡ n
+    size = eqb-true (length d) n (passed .0 .0)
+
+    verdict : v ≡ taken p
+    verdict = passed .1
+
+    framed : (kind : ℕ) → eqb (getD d 0 0) kind ≡ true → line kind (field 1 (n - 2) d) ≡ d
+    framed kind t =
+        let q : getD d 0 0 ≡ kind = eqb-true (getD d 0 0) kind t in
+        rw (← q, ← size) (whole d (omega (arith, size)) (passed .0 .1))
+
+  -- a packet that holds nothing, under any of the four types
+  bare : (kind : ℕ) (packet : Packet) → Fit packet → write packet ≡ line kind [] → eqb (getD d 0 0) kind ≡ true → checked (sizedChecks 2 d) (taken packet) ≡ taken p → Lawful
+  bare kind packet fit laid t e =
+      rw (← taken-same packet p (verdict 2 (omega arith) (taken packet) e)) (fit, laid ∙ framed 2 (omega arith) (taken packet) e kind t)
+
+  rejected : eqb (getD d 0 0) 74 ≡ true → readReject d ≡ taken p → Lawful
+  unfolding rejectOf Fit
+  rejected t e =
+      let v = rejectOf (getD d 1 0) in
+      let r = all-passed (rejectChecks (getD d 1 0)) (taken (reject (getD d 1 0))) p (verdict 3 (omega arith) v e) in
+      let c : field 1 1 d ≡ getD d 1 0 ∷ [] = rw (drop-cons d 1 0 (omega (arith, size 3 (omega arith) v e))) in
+      rw (← taken-same (reject (getD d 1 0)) p (r .1)) (
+        ⊎-map (eqb-true (getD d 1 0) 65) (eqb-true (getD d 1 0) 83) (either (eqb (getD d 1 0) 65) (eqb (getD d 1 0) 83) (r .0 .0)),
+        ap (line 74) (sym c) ∙ framed 3 (omega arith) v e 74 t,
+      )
+
+  -- a number that was read
+  numbered : (s : List ℕ) → length s ≡ 20 → wellFormed s ≡ true → not (blank s) ≡ true → leb (valueOf s) (2 ^ 64 - 1) ≡ true → (written (valueOf s) ≡ s) × (valueOf s < 2 ^ 64)
+  numbered s l f e h = (written-read s l f (not-true (blank s) e), omega (arith, leb-true (valueOf s) (2 ^ 64 - 1) h))
+
+  accepted : eqb (getD d 0 0) 65 ≡ true → readAccept d ≡ taken p → Lawful
+  unfolding acceptOf Fit
+  accepted t e =
+      let session = field 1 10 d in
+      let number = field 11 20 d in
+      let v = acceptOf session number in
+      let l : length d ≡ 32 = size 32 (omega arith) v e in
+      let r = all-passed (acceptChecks session number) (taken (accept session (valueOf number))) p (verdict 32 (omega arith) v e) in
+      let n = numbered number (length-field 11 20 d (omega arith)) (r .0 .1 .0) (r .0 .1 .1 .1 .0) (r .0 .1 .1 .1 .1 .1 .0) in
+      let z = eqb-false (valueOf number) 0 (not-true (eqb (valueOf number) 0) (r .0 .1 .1 .1 .1 .0)) in
+      rw (← taken-same (accept session (valueOf number)) p (r .1)) (
+        ((length-field 1 10 d (omega arith), r .0 .0), not-true (blank session) (r .0 .1 .1 .0), omega arith, n .1),
+        ap (λ (s : List ℕ). line 65 (session ++ s)) (n .0) ∙ ap (line 65) (sym (fields-join 1 10 20 d)) ∙ framed 32 (omega arith) v e 65 t,
+      )
+
+  logged-in : eqb (getD d 0 0) 76 ≡ true → readLogin d ≡ taken p → Lawful
+  unfolding loginOf Fit
+  logged-in t e =
+      let user = field 1 6 d in
+      let password = field 7 10 d in
+      let session = field 17 10 d in
+      let number = field 27 20 d in
+      let v = loginOf user password session number in
+      let l : length d ≡ 48 = size 48 (omega arith) v e in
+      let r = all-passed (loginChecks user password session number) (taken (login user password session (valueOf number))) p (verdict 48 (omega arith) v e) in
+      let n = numbered number (length-field 27 20 d (omega arith)) (r .0 .1 .1 .1 .0) (r .0 .1 .1 .1 .1 .0) (r .0 .1 .1 .1 .1 .1 .0) in
+      let joined : user ++ password ++ session ++ number ≡ field 1 46 d = rw (← fields-join 1 6 10 d, ← fields-join 1 16 10 d, ← fields-join 1 26 20 d) in
+      rw (← taken-same (login user password session (valueOf number)) p (r .1)) (
+        (
+          (length-field 1 6 d (omega arith), r .0 .0),
+          (length-field 7 10 d (omega arith), r .0 .1 .0),
+          (length-field 17 10 d (omega arith), r .0 .1 .1 .0),
+          n .1,
+        ),
+        ap (λ (s : List ℕ). line 76 (user ++ password ++ session ++ s)) (n .0) ∙ ap (line 76) joined ∙ framed 48 (omega arith) v e 76 t,
+      )
+
+  -- by the type byte
+  sorted : byType (getD d 0 0) d ≡ taken p → Lawful
+  unfolding Fit
+  sorted =
+      let kind = getD d 0 0 in
+      chosen (eqb kind 43) _ _ (taken p) (carried 43 debug (λ s f. f) (λ s. refl) (eqb-false 43 10 refl))
+      (chosen (eqb kind 65) _ _ (taken p) accepted
+      (chosen (eqb kind 74) _ _ (taken p) rejected
+      (chosen (eqb kind 83) _ _ (taken p) (carried 83 sequenced (λ s f. f) (λ s. refl) (eqb-false 83 10 refl))
+      (chosen (eqb kind 72) _ _ (taken p) (bare 72 serverHeartbeat tt refl)
+      (chosen (eqb kind 90) _ _ (taken p) (bare 90 endOfSession tt refl)
+      (chosen (eqb kind 76) _ _ (taken p) logged-in
+      (chosen (eqb kind 85) _ _ (taken p) (carried 85 unsequenced (λ s f. f) (λ s. refl) (eqb-false 85 10 refl))
+      (chosen (eqb kind 82) _ _ (taken p) (bare 82 clientHeartbeat tt refl)
+      (chosen (eqb kind 79) _ _ (taken p) (bare 79 logout tt refl)
+      (λ e. not-both (refused 3) 3 p refl e))))))))))
+
+-- Nothing else is taken: what is taken is lawful, and written again it gives the very bytes that were read.
+pub read-is-written : (d : List ℕ) (p : Packet) → Bytes d → read d ≡ taken p → Fit p × (write p ≡ d)
+unfolding read
+read-is-written d p b e =
+    let r = all-passed (opening d) (byType (getD d 0 0) d) p e in
+    sorted d b (r .0) p (r .1)

@@ -1,0 +1,5 @@
+pub mod Decimal
+pub mod Packet
+pub mod Read
+pub mod Reading
+pub mod Writing
