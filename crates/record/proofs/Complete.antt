@@ -1,0 +1,60 @@
+-- How a record stands, and what that means.
+-- Assumes nothing.
+use Prim.Native.Nat.{_+_, _≤_, _<_}
+use mathlib.Core.List.{[], _∷_}
+use mathlib.Core.Path.{_≡_, refl}
+use mathlib.Core.Bool.{Bool, true, false}
+use native.Mathlib.Omega.{arith}
+use borrow.Author.Tests.{le-leb, lt-leb, leb-true, leb-false, eq-eqb}
+use lib.Dec.{leb}
+use Rattle.wire.specs.Checks.{taken, _else_}
+use Rattle.wire.proofs.Checks.{all-passed}
+use Rattle.record.specs.Record.{hangs}
+use Rattle.record.specs.Standing.{State, complete, ongoing, missing, state, standing}
+use Rattle.record.specs.declared.Record.{Record}
+use Rattle.record.proofs.Hanging.{hanging}
+
+-- what each state says of the numbers
+abbrev Means : Record → State → Type 0
+Means r complete = (r .ended ≡ true) × (r .next .0 ≡ r .top .0 + 1)
+Means r ongoing = (r .ended ≡ false) × (r .next .0 ≡ r .top .0 + 1)
+Means r (missing first last) = (first ≡ r .next .0) × (last ≡ r .top .0) × (r .next .0 ≤ r .top .0)
+
+module _ (r : Record) (h : hangs r ≡ true) where
+  pub means : Means r (state r)
+  means = by (leb (r .next .0) (r .top .0)) refl (r .ended) refl where
+    past : leb (r .next .0) (r .top .0) ≡ false → r .next .0 ≡ r .top .0 + 1
+    past e =
+        let a = leb-false (r .next .0) (r .top .0) e in
+        let b = hanging r h .near in
+        omega arith
+
+    by : (a : Bool) → leb (r .next .0) (r .top .0) ≡ a → (b : Bool) → r .ended ≡ b → Means r (state r)
+    by true p b q = rw p (refl, refl, leb-true (r .next .0) (r .top .0) p)
+    by false p true q = let n = past p in rw (p, q, eq-eqb (r .next .0) (r .top .0 + 1) n) (refl, n)
+    by false p false q = rw (p, q) (refl, past p)
+
+  stands : standing r ≡ taken (state r)
+  unfolding standing
+  stands = rw h
+
+  -- Ended and N = T+1 is complete.
+  pub complete-if : r .ended ≡ true → r .next .0 ≡ r .top .0 + 1 → standing r ≡ taken complete
+  complete-if e n =
+      rw (stands, lt-leb (r .next .0) (r .top .0) (omega arith), e, eq-eqb (r .next .0) (r .top .0 + 1) n)
+
+  -- Nothing missing without an end is not complete.
+  pub ongoing-if : r .ended ≡ false → r .top .0 < r .next .0 → standing r ≡ taken ongoing
+  ongoing-if e n = rw (stands, lt-leb (r .next .0) (r .top .0) n, e)
+
+  -- From N to T is missing, an end heard or not.
+  pub missing-if : r .next .0 ≤ r .top .0 → standing r ≡ taken (missing (r .next .0) (r .top .0))
+  missing-if n = rw (stands, le-leb (r .next .0) (r .top .0) n)
+
+-- What a record stands at is what it means: complete is ended and N = T+1, ongoing is N = T+1 with no end, missing is N to T.
+pub standing-means : (r : Record) (s : State) → standing r ≡ taken s → Means r s
+unfolding standing
+standing-means r s e =
+    let p = all-passed ((hangs r else 10) ∷ []) (taken (state r)) s e in
+    let same : state r ≡ s = cc (p .1) in
+    rw same at (means r (p .0 .0))
