@@ -1,0 +1,64 @@
+-- What a log has that hangs together, what makes one so, and what refutes it.
+-- Assumes nothing.
+use Prim.Native.Nat.{ℕ, _-_, _^_, _≤_, _<_}
+use mathlib.Core.List.{List}
+use mathlib.Core.Path.{_≡_, refl, sym, _∙_}
+use mathlib.Core.Bool.{Bool, true, false, not, _&&_, and-false, true≢false}
+use borrow.Author.Tests.{le-leb, lt-leb, leb-true, not-true, not-false}
+use lib.ListN.{length}
+use lib.Dec.{leb}
+use Rattle.blocks.specs.Blocks.{Cut, torn, whole, messagesOf}
+use Rattle.lend.specs.Log.{small, sound, blocksIn, messagesIn, hangs}
+use Rattle.lend.specs.declared.log.Log.{Log}
+
+-- both tests hold
+pub and-left : (a b : Bool) → a && b ≡ true → a ≡ true
+and-left true b e = refl
+and-left false b e = e
+
+pub and-right : (a b : Bool) → a && b ≡ true → b ≡ true
+and-right true b e = e
+and-right false b e = absurd (true≢false (sym e))
+
+sound-whole : (q : Cut) → sound q ≡ true → (q ≡ whole (messagesOf q)) × (small (messagesOf q) ≡ true)
+sound-whole torn e = absurd (true≢false (sym e))
+sound-whole (whole ms) e = (refl, e)
+
+-- what a test of the log tells
+pub found-broken : {t r : Bool} → r ≡ t → not r ≡ true → t ≡ false
+found-broken {r = r} e h = sym e ∙ not-true r h
+
+pub found-whole : {t r : Bool} → r ≡ t → not r ≡ false → t ≡ true
+found-whole {r = r} e h = sym e ∙ not-false r h
+
+module _ (l : Log) (s : List ℕ) where
+  pub record Hangs : Type 0 where
+    pub count : l .count ≤ 2 ^ 32 - 2
+    pub mark : l .used ≤ length s
+    pub cuts : blocksIn l s ≡ whole (messagesIn l s)
+    pub sizes : small (messagesIn l s) ≡ true
+
+  pub hanging : hangs l s ≡ true → Hangs
+  unfolding hangs
+  hanging e =
+      let a = leb (l .count) (2 ^ 32 - 2) in
+      let b = leb (l .used) (length s) in
+      let q = sound-whole (blocksIn l s) (and-right (a && b) (sound (blocksIn l s)) e) in
+      let f = and-left (a && b) (sound (blocksIn l s)) e in
+      record { count = leb-true (l .count) (2 ^ 32 - 2) (and-left a b f); mark = leb-true (l .used) (length s) (and-right a b f); cuts = q .0; sizes = q .1 }
+
+  -- the pass over the blocks decides
+  pub hangs-if-sound : l .count ≤ 2 ^ 32 - 2 → l .used ≤ length s → hangs l s ≡ sound (blocksIn l s)
+  unfolding hangs
+  hangs-if-sound h k = rw (le-leb (l .count) (2 ^ 32 - 2) h, le-leb (l .used) (length s) k)
+
+  pub hangs-so : l .count ≤ 2 ^ 32 - 2 → l .used ≤ length s → (ms : List (List ℕ)) → blocksIn l s ≡ whole ms → small ms ≡ true → hangs l s ≡ true
+  hangs-so h k ms e z = hangs-if-sound h k ∙ rw e z
+
+  pub too-many : 2 ^ 32 - 2 < l .count → hangs l s ≡ false
+  unfolding hangs
+  too-many h = rw (lt-leb (l .count) (2 ^ 32 - 2) h)
+
+  pub past-the-end : length s < l .used → hangs l s ≡ false
+  unfolding hangs
+  past-the-end h = rw (lt-leb (l .used) (length s) h, and-false (leb (l .count) (2 ^ 32 - 2)))
