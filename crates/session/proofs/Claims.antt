@@ -1,0 +1,138 @@
+-- Demand 3, over bytes: what holds of one UFO server over an empty log in lent bytes, one fresh recorder, and a line that loses,
+-- repeats, delays and reorders datagrams either way and forges none. `Reached s` is any state that they can come to.
+-- Assumes nothing.
+use Prim.Native.Nat.{ℕ, _+_, _-_, _≤_, min}
+use mathlib.Core.Path.{_≡_}
+use mathlib.Core.List.{List, [], _∷_}
+use mathlib.Core.Logic.{_⊎_}
+use mathlib.Core.Bool.{Bool, true}
+use lib.Ieee.{Float}
+use lib.ListN.{length}
+use Rattle.wire.specs.Checks.{taken}
+use Rattle.ufo.specs.Down as ufo
+use Rattle.ufo.specs.Up.{Message, request, readUp}
+use Rattle.clock.specs.Patience.{waitOver}
+use Rattle.clock.specs.declared.sheet.Sheet.{Sheet}
+use Rattle.clock.specs.declared.patience.Patience.{Patience}
+use Rattle.record.specs.Taking.{Taking, taking}
+use Rattle.record.specs.Standing.{complete, missing, standing}
+use Rattle.session.specs.Session.{_among_, State, logged, takes, step, Run, Reached}
+use Rattle.session.specs.Caller.{ByContract}
+use Rattle.session.specs.Promise.{Faithful, Delivered, Outcome, Due, made, Asked, Answered, Exchange, Exchanges}
+use Rattle.session.proofs.Steps.{inv, taken-so}
+use Rattle.session.proofs.Deliveries as deliveries
+use Rattle.session.proofs.Standing as standings
+use Rattle.session.proofs.Ending as ending
+use Rattle.session.proofs.Fetching as fetching
+use Rattle.session.proofs.Serving as serving
+use Rattle.session.proofs.Contracts as contracts
+use Rattle.session.proofs.Specimen as specimen
+
+-- The steps are what the code does: whatever outcome the contract of an entry allows, its caller is left with the step.
+pub by-contract : {s : State} → Reached s → ByContract s
+by-contract {s} r = contracts.by-contract s (inv r)
+
+-- 1. After every step the deliveries are the log's beginning: its first N - 1 messages, each once, in order, none skipped; and
+-- the delivered blocks are the log's first bytes.
+pub faithful : {s : State} → Reached s → Faithful s
+faithful {s} r = deliveries.faithful s (inv r)
+
+-- 2. No genuine packet is ever refused: the recorder takes every datagram that the server ever sent, whenever and however often
+-- it arrives.
+pub never-refused : {s : State}
+    → Reached s
+    → (datagram : List ℕ) (room : ℕ)
+    → datagram among s .down
+    → 1472 ≤ room
+    → (t : Taking) × (taking (s .kept) datagram room ≡ taken t)
+never-refused {s} r datagram room m e = (_, taken-so s (inv r) datagram (inv r .line datagram m) room e)
+
+-- 3. Once End of Session has been taken, it is the end of the server's log, and the record stands either as complete, and the
+-- deliveries are the whole log; or as not complete, and what it names as missing is exactly what of the log was not delivered.
+pub at-the-end : {s t : State}
+    → Reached s
+    → (datagram : List ℕ) (room total : ℕ)
+    → datagram among s .down
+    → 1472 ≤ room
+    → ufo.read datagram ≡ taken (ufo.end total)
+    → Run (step s (takes datagram room)) t
+    → (t .log .ended ≡ true) × (length (logged t) ≡ total) × Outcome t
+at-the-end {s} {t} r datagram room total m e reads run = ending.ended datagram total reads s t (inv r) room m e run
+
+-- And a record never stands as complete but with the whole of a log that has ended.
+pub never-early : {s : State}
+    → Reached s
+    → standing (s .kept) ≡ taken complete
+    → (s .log .ended ≡ true) × (s .deliveries ≡ logged s)
+never-early {s} r e = standings.complete-so s (inv r) e
+
+-- 4. Something is missing: then a request for it, from the first number on, is due, unless one was made from there and the wait
+-- is not over.
+pub is-due : {s : State}
+    → Reached s
+    → (first last : ℕ)
+    → standing (s .kept) ≡ taken (missing first last)
+    → (sheet : Sheet) (rule : Patience) (elapsed : Float) (late : Bool)
+    → waitOver sheet rule elapsed ≡ taken late
+    → ((s .kept .asked .0 ≡ first) → ⊥) ⊎ (late ≡ true)
+    → Due s first (min (last - first + 1) 65535)
+is-due {s} r = serving.due-so s (inv r)
+
+-- What is due is a request for the first number that is missing.
+pub due-first : {s : State}
+    → (first count : ℕ)
+    → Due s first count
+    → (last : ℕ) × (standing (s .kept) ≡ taken (missing first last))
+due-first {s} first count due = fetching.due-first s first count due
+
+-- Once it is made it stands on the line,
+pub asked : {s u : State}
+    → Reached s
+    → (first count : ℕ) (due : Due s first count) (room : ℕ)
+    → 1472 ≤ room
+    → Run (made s due room) u
+    → Asked u first count
+asked {s} {u} r first count due room e run = serving.asked s u (inv r) first count due room run e
+
+-- and in whatever packet it arrives at the server, and whenever, it is answered.
+pub answered : {s u : State}
+    → Reached s
+    → (first count : ℕ) (due : Due s first count) (roomUp : ℕ)
+    → Run (made s due roomUp) u
+    → (datagram : List ℕ) (ms : List Message) (room : ℕ)
+    → readUp datagram ≡ taken ms
+    → request first count among ms
+    → 1472 ≤ room
+    → Answered u datagram first count room
+answered {s} {u} r first count due roomUp run = serving.answered s u (inv r) first count due roomUp run
+
+-- Once any answer to it has been taken, whenever it was made after the asking and however old it is, the message that was first
+-- missing when it was asked has been delivered.
+pub fetched : {s t : State} → Reached s → (x : Exchange s t) → Delivered t (x .first)
+fetched {s} {t} r x = fetching.fetched s t (inv r) x
+
+-- And it can be had: where the line carries the request and the answer, there is such an exchange.
+pub exchange : {s : State} → Reached s → (first count : ℕ) → Due s first count → (t : State) × Exchange s t
+exchange {s} r first count due = serving.exchange s (inv r) first count due
+
+-- 5. A hole is fetched in no more exchanges, one after another, than it has messages.
+pub filled : {s t : State} {n : ℕ}
+    → Reached s
+    → (first last : ℕ)
+    → standing (s .kept) ≡ taken (missing first last)
+    → Exchanges s n t
+    → last + 1 - first ≤ n
+    → (k : ℕ)
+    → first ≤ k
+    → k ≤ last
+    → Delivered t k
+filled {s} {t} {n} r first last e x = fetching.filled s t (inv r) n first last e x
+
+-- 6. And it happens, worked out byte by byte: of three messages the third comes first, the first comes twice and the second is
+-- lost; the end is heard with two still missing; one exchange fetches both.
+pub happens : Reached specimen.s
+    × (standing (specimen.s .kept) ≡ taken (missing 2 3))
+    × Exchange specimen.s specimen.t
+    × (standing (specimen.t .kept) ≡ taken complete)
+    × (specimen.t .deliveries ≡ (72 ∷ 73 ∷ []) ∷ [] ∷ (79 ∷ 75 ∷ 33 ∷ []) ∷ [])
+happens = (specimen.reached, specimen.lacking .0, specimen.exchanged, specimen.all-there .0, specimen.all-there .1)

@@ -1,0 +1,48 @@
+-- The deliveries are the log's beginning, message by message and byte by byte.
+-- Assumes nothing.
+use Prim.Native.Nat.{ℕ, _-_, _≤_, _<_}
+use mathlib.Core.Path.{_≡_, sym, ap, _∙_}
+use mathlib.Core.List.{List, [], _++_, append-assoc}
+use native.Mathlib.Omega.{arith}
+use lib.ListN.{length, take, drop, take-append-drop}
+use lib.Seq.{length-take-le, take-append-seam, getD-take}
+use Rattle.blocks.specs.Blocks.{frames}
+use Rattle.blocks.proofs.Frames.{bytes-take}
+use Rattle.blocks.proofs.Cutting.{frames-cut}
+use Rattle.lend.specs.Log.{messagesIn}
+use Rattle.lend.specs.declared.log.Log.{Log}
+use Rattle.lend.proofs.Hanging.{hanging}
+use Rattle.lend.proofs.Joining.{frames-split}
+use Rattle.session.specs.Session.{State, logged}
+use Rattle.session.specs.Promise.{Faithful, Delivered}
+use Rattle.session.proofs.Logs.{Hung}
+use Rattle.session.proofs.Invariant.{Inv}
+
+-- the lent bytes begin with the log's blocks, and these with the blocks of its first messages
+log-bytes : (l : Log) (s : List ℕ) → Hung l s → frames (messagesIn l s) ≡ take (l .used) s
+log-bytes l s h = frames-cut (l .count) (take (l .used) s) (messagesIn l s) (bytes-take (l .used) s (h .bytes)) (hanging l s (h .whole) .cuts) .0
+
+first-bytes : (l : Log) (s : List ℕ) → Hung l s → (n : ℕ) (got : List (List ℕ)) → got ≡ take n (messagesIn l s) → frames got ≡ take (length (frames got)) s
+first-bytes l s h n got e =
+    let ms : List (List ℕ) = messagesIn l s in
+    let more : List ℕ = frames (drop n ms) ++ drop (l .used) s in
+    let all : s ≡ frames got ++ more =
+    sym (take-append-drop (l .used) s) ∙ ap (λ (x : List ℕ). x ++ drop (l .used) s) (sym (log-bytes l s h) ∙ frames-split n ms ∙ ap (λ (x : List (List ℕ)). frames x ++ frames (drop n ms)) (sym e))
+    ∙ append-assoc (frames got) (frames (drop n ms)) (drop (l .used) s) in
+    sym (ap (take (length (frames got))) all ∙ take-append-seam (frames got) more)
+
+module _ (s : State) (i : Inv s) where
+  pub length-deliveries : length (s .deliveries) ≡ s .kept .next .0 - 1
+  length-deliveries =
+      let h = i .hold in
+      ap length (h .begun) ∙ length-take-le (s .kept .next .0 - 1) (logged s) (omega (arith, h .near, h .known))
+
+  pub faithful : Faithful s
+  faithful =
+      let h = i .hold in
+      record { hung = i .hung .whole; begun = h .begun; inside = omega (arith, h .near, h .known); bytes = first-bytes (s .log) (s .lent) (i .hung) (s .kept .next .0 - 1) (s .deliveries) (h .begun) }
+
+  pub delivered : (n : ℕ) → 1 ≤ n → n < s .kept .next .0 → Delivered s n
+  delivered n a b =
+      let l = length-deliveries in
+      record { some = a; within = omega arith; same = rw (i .hold .begun) (getD-take (s .kept .next .0 - 1) (logged s) (n - 1) [] (omega arith)) }

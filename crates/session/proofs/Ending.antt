@@ -1,0 +1,34 @@
+-- An end that is taken is the log's own, and marks the record ended for good.
+-- Assumes nothing.
+use Prim.Native.Nat.{ℕ, _≤_}
+use mathlib.Core.Path.{_≡_, refl, sym}
+use mathlib.Core.List.{List, List·Memᴰ}
+use mathlib.Core.Bool.{true, or-true}
+use lib.ListN.{length}
+use Rattle.wire.specs.Checks.{taken}
+use Rattle.ufo.specs.Down as ufo
+use Rattle.record.specs.Hearing.{end}
+use Rattle.session.specs.Session.{State, logged, takes, step, Run}
+use Rattle.session.specs.Promise.{Outcome}
+use Rattle.session.proofs.Invariant.{Vouches, Inv}
+use Rattle.session.proofs.Steps.{taken-so, good, along}
+use Rattle.session.proofs.Standing.{outcome}
+use Rattle.session.proofs.Fetching.{same-report}
+
+module _ (datagram : List ℕ) (total : ℕ) (e : ufo.read datagram ≡ taken (ufo.end total)) where
+  -- what it reports, wherever it arrives
+  reports : (s : State) (g : Vouches s datagram) → g .report ≡ end total
+  reports s g = same-report datagram (g .packet) (ufo.end total) (g .report) (end total) (g .gives .reads) e (g .vouched .heard) refl
+
+  marks : (s : State) (i : Inv s) (g : Vouches s datagram) (room : ℕ) → 1472 ≤ room → step s (takes datagram room) .kept .ended ≡ true
+  marks s i g room h = rw (taken-so s i datagram g room h, reports s g) (or-true (s .kept .ended))
+
+  pub ended : (s t : State) → Inv s → (room : ℕ) → List·Memᴰ datagram (s .down) → 1472 ≤ room → Run (step s (takes datagram room)) t → (t .log .ended ≡ true) × (length (logged t) ≡ total) × Outcome t
+  ended s t i room m h r =
+      let g = good s (takes datagram room) m i in
+      let k = along r (g .inv) in
+      let n = k .later .down datagram (g .later .down datagram m) in
+      let j = k .inv in
+      let f = rw (reports t (j .line datagram n)) at (j .line datagram n .vouched .genuine .final) in
+      let o = f refl in
+      (o .0, sym (o .1), outcome t j (k .later .over (marks s i (i .line datagram m) room h)))

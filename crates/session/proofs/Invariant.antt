@@ -1,0 +1,98 @@
+-- What holds of every state: the log hangs together, the record and the deliveries tell nothing false of it, and it vouches for
+-- every datagram that was sent. It holds at the start.
+-- Assumes nothing.
+use Prim.Native.Nat.{ℕ, _≤_}
+use mathlib.Core.Path.{_≡_, refl}
+use mathlib.Core.List.{List, [], _∷_, List·Memᴰ, List·Memᴰ·not-nil}
+use mathlib.Core.Bool.{true, false, not, false≢true}
+use native.Mathlib.Omega.{arith}
+use borrow.Author.Tests.{le-leb}
+use lib.ListN.{length}
+use Rattle.wire.specs.Fields.{Bytes}
+use Rattle.wire.specs.Checks.{taken, _else_}
+use Rattle.wire.specs.Names.{nameBytes}
+use Rattle.wire.specs.Text.{blank, textThenSpaces}
+use Rattle.wire.specs.declared.kinds.Name.{Name}
+use Rattle.wire.proofs.Checks.{all-passed}
+use Rattle.blocks.specs.Blocks.{cut}
+use Rattle.lend.specs.Log.{small, hangs}
+use Rattle.record.specs.Record.{fresh, opening}
+use Rattle.record.specs.declared.Record.{Record}
+use Rattle.record.specs.declared.Session.the-variants.{Ufo}
+use Rattle.session.specs.Session.{State, logged, begin}
+use Rattle.session.proofs.Reports.{Hold}
+use Rattle.session.proofs.Logs.{Hung}
+use Rattle.session.proofs.Line.{Wrote}
+use Rattle.session.proofs.Recording.{Named}
+
+-- the log vouches for a datagram
+abbrev pub Vouches : State → List ℕ → Type 0
+Vouches s d = Wrote (logged s) (s .log .ended) d
+
+pub record Inv (s : State) : Type 0 where
+  pub hung : Hung (s .log) (s .lent)
+  pub named : Named (s .kept)
+  pub hold : Hold (logged s) (s .log .ended) (s .kept) (s .deliveries)
+  pub line : (d : List ℕ) → List·Memᴰ d (s .down) → Vouches s d
+
+-- nothing goes back: not N, nor T, nor the end, nor the log, nor what was sent
+pub record Later (s t : State) : Type 0 where
+  pub next : s .kept .next .0 ≤ t .kept .next .0
+  pub top : s .kept .top .0 ≤ t .kept .top .0
+  pub over : s .kept .ended ≡ true → t .kept .ended ≡ true
+  pub log : length (logged s) ≤ length (logged t)
+  pub down : (d : List ℕ) → List·Memᴰ d (s .down) → List·Memᴰ d (t .down)
+  pub up : (d : List ℕ) → List·Memᴰ d (s .up) → List·Memᴰ d (t .up)
+
+pub record Good (s t : State) : Type 0 where
+  pub inv : Inv t
+  pub later : Later s t
+
+pub stays-put : (s : State) → Inv s → Good s s
+stays-put s i =
+    record { inv = i; later = record { next = omega arith; top = omega arith; over = λ e. e; log = omega arith; down = λ d m. m; up = λ d m. m } }
+
+pub chain : {s t u : State} → Good s t → Good t u → Good s u
+chain g h =
+    let a = g .later in
+    let b = h .later in
+    record {
+      inv = h .inv;
+      later = record {
+        next = omega arith;
+        top = omega arith;
+        over = λ e. b .over (a .over e);
+        log = omega arith;
+        down = λ d m. b .down d (a .down d m);
+        up = λ d m. b .up d (a .up d m);
+      };
+    }
+
+-- the start
+none-logged : (lent : List ℕ) (kept : Record) → logged (begin lent kept) ≡ []
+unfolding cut
+none-logged lent kept = refl
+
+empty-hangs : (lent : List ℕ) (kept : Record) → hangs (begin lent kept .log) lent ≡ true
+unfolding hangs cut small
+empty-hangs lent kept = rw (le-leb 0 (length lent) (omega arith))
+
+opened : (session : Name) (kept : Record) → opening session ≡ taken kept → Named kept × (kept ≡ fresh (Ufo session))
+opened session kept e =
+    let a = textThenSpaces (nameBytes session) in
+    let b = not (blank (nameBytes session)) in
+    let p = all-passed ((a else 5) ∷ (b else 6) ∷ []) (taken (fresh (Ufo session))) kept e in
+    let same : kept ≡ fresh (Ufo session) = cc (p .1) in
+    (rw same (record { name = session; ufo = refl; lawful = rw (p .0 .0, p .0 .1 .0) }), same)
+
+pub begins : (lent : List ℕ) (session : Name) (kept : Record) → Bytes lent → opening session ≡ taken kept → Inv (begin lent kept)
+begins lent session kept b e =
+    let o = opened session kept e in
+    let h : Hold [] false (fresh (Ufo session)) [] =
+    record { begun = refl; one = omega arith; near = omega arith; known = omega arith; old = omega arith; final = λ x. absurd (false≢true x) } in
+    record {
+      hung = record { whole = empty-hangs lent kept; bytes = b };
+      named = o .0;
+      hold = rw (none-logged lent kept, o .1) h;
+      line = λ d m. absurd (List·Memᴰ·not-nil m);
+    }

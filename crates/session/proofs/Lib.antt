@@ -1,0 +1,17 @@
+pub mod Pieces
+pub mod Reports
+pub mod Growing
+pub mod Lending
+pub mod Logs
+pub mod Line
+pub mod Recording
+pub mod Invariant
+pub mod Steps
+pub mod Deliveries
+pub mod Standing
+pub mod Fetching
+pub mod Ending
+pub mod Serving
+pub mod Contracts
+pub mod Specimen
+pub mod Claims

@@ -1,0 +1,67 @@
+-- The recorder takes every datagram that the log vouches for.
+-- Assumes nothing.
+use Prim.Native.Nat.{ℕ, _-_, _^_, _≤_}
+use mathlib.Core.Path.{_≡_, sym, _∙_}
+use mathlib.Core.List.{List, []}
+use mathlib.Core.Bool.{Bool, true}
+use native.Mathlib.Omega.{arith}
+use lib.ListN.{length}
+use Rattle.wire.specs.Checks.{Verdict, refused, taken}
+use Rattle.wire.specs.declared.kinds.Name.{Name}
+use Rattle.blocks.specs.Blocks.{frames}
+use Rattle.ufo.specs.Down as ufo
+use Rattle.ufo.proofs.DownLaid.{length-laid}
+use Rattle.record.specs.Record.{lawful, hangs}
+use Rattle.record.specs.Hearing.{Report, ofUfo, hear}
+use Rattle.record.specs.Taking.{delivered, Taking, outcome, reporting, taking}
+use Rattle.record.specs.declared.Record.{Record}
+use Rattle.record.specs.declared.Session.the-variants.{Ufo}
+use Rattle.record.proofs.Hanging.{hangs-so}
+use Rattle.record.proofs.Hearing.{hears-ufo}
+use Rattle.record.proofs.Reports.{reported, reports}
+use Rattle.session.proofs.Pieces.{frames-none}
+use Rattle.session.proofs.Reports.{carried, Hold, Brings, brings}
+use Rattle.session.proofs.Line.{Wrote}
+
+-- a record of a UFO session
+pub record Named (r : Record) : Type 0 where
+  pub name : Name
+  pub ufo : r .session ≡ Ufo name
+  pub lawful : lawful (r .session) ≡ true
+
+-- a lawful packet carries no more than 1,465 bytes of blocks
+abbrev blocksOf : Verdict Report → List (List ℕ)
+blocksOf (refused n) = []
+blocksOf (taken report) = carried report
+
+slim : (p : ufo.Packet) → ufo.Fit p → length (frames (blocksOf (ofUfo p))) ≤ 1465
+slim (ufo.accept session next) f = omega (arith, frames-none)
+slim (ufo.reject reason) f = omega (arith, frames-none)
+slim (ufo.messages first ms) f = omega (arith, f .size, length-laid first (length ms) (frames ms))
+slim (ufo.end total) f = omega (arith, frames-none)
+
+module _ (ms : List (List ℕ)) (over : Bool) (few : length ms ≤ 2 ^ 32 - 2) (r : Record) (got : List (List ℕ)) (n : Named r) (h : Hold ms over r got) where
+  pub hung : hangs r ≡ true
+  hung = hangs-so r (record { begun = h .one; near = omega (arith, h .near); old = h .old; bound = rw (n .ufo) (omega (arith, h .known)); named = n .lawful })
+
+  module _ (d : List ℕ) (w : Wrote ms over d) where
+    heard : hear (r .session) d ≡ taken (w .report)
+    heard = rw (n .ufo, w .gives .bytes) (hears-ufo (n .name) (w .packet) (w .gives .fit) ∙ w .vouched .heard)
+
+    pub brought : Brings ms over r got (w .report) (delivered (r .next .0) (w .report))
+    brought = brings ms over r got (w .report) h (w .vouched .genuine)
+
+    taken-as : (room : ℕ) → taking r d room ≡ reporting r room (w .report)
+    unfolding taking
+    taken-as room = rw (hung, heard)
+
+    pub fits : length (frames (delivered (r .next .0) (w .report))) ≤ 1465
+    fits =
+        let s : length (frames (carried (w .report))) ≤ 1465 = rw (w .vouched .heard) at (slim (w .packet) (w .gives .fit)) in
+        omega (arith, brought .lean)
+
+    pub takes : (room : ℕ) → 1472 ≤ room → taking r d room ≡ taken (outcome r (w .report))
+    takes room e = taken-as room ∙ reports r room (w .report) (brought .fair) (omega (arith, fits))
+
+    pub took : (room : ℕ) (t : Taking) → taking r d room ≡ taken t → t ≡ outcome r (w .report)
+    took room t e = reported r room (w .report) t (sym (taken-as room) ∙ e) .gives

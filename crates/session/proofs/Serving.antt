@@ -1,0 +1,108 @@
+-- A request that is due goes onto the line, is read as what it is, and is answered wherever it arrives.
+-- Assumes nothing.
+use Prim.Native.Nat.{ℕ, _+_, _-_, _≤_, min}
+use mathlib.Core.Path.{_≡_, refl, _∙_}
+use mathlib.Core.List.{List, [], _∷_, List·Memᴰ, List·Memᴰ·head, List·Memᴰ·tail, Memᴰ·append-left, Memᴰ·append-right}
+use mathlib.Core.Logic.{_⊎_}
+use mathlib.Core.Bool.{Bool, true}
+use native.Mathlib.Omega.{arith}
+use lib.Ieee.{Float}
+use lib.ListN.{length}
+use Rattle.wire.specs.Checks.{taken}
+use Rattle.wire.proofs.Settling.{enough-room}
+use Rattle.blocks.specs.Blocks.{frame}
+use Rattle.blocks.proofs.Frames.{length-frame}
+use Rattle.ufo.specs.Down as ufo
+use Rattle.ufo.specs.Up.{Message, request, writeMessage, FitMessage, readUp}
+use Rattle.ufo.specs.WriteUp.{reply}
+use Rattle.ufo.proofs.UpExact.{read-one}
+use Rattle.ufo.proofs.UpExactOne.{length-message}
+use Rattle.ufo.proofs.UpReplies.{reply-fit}
+use Rattle.clock.specs.Patience.{waitOver}
+use Rattle.clock.specs.declared.sheet.Sheet.{Sheet}
+use Rattle.clock.specs.declared.patience.Patience.{Patience}
+use Rattle.lend.specs.Answer.{answerTo, answerReply}
+use Rattle.lend.proofs.Answering.{few-in}
+use Rattle.record.specs.Standing.{missing, standing}
+use Rattle.record.specs.Asking.{askedNow, requestOf}
+use Rattle.record.proofs.Asks.{asks-now}
+use Rattle.record.proofs.Complete.{standing-means}
+use Rattle.session.specs.Session.{State, logged, serves, takes, asks, sent, toMessage, toEach, toPacket, step, Run, stop, then}
+use Rattle.session.specs.Promise.{Due, made, Asked, Answered, Exchange}
+use Rattle.session.proofs.Line.{answered-so}
+use Rattle.session.proofs.Invariant.{Inv, Good}
+use Rattle.session.proofs.Steps.{hung-record, good, along}
+use Rattle.session.proofs.Fetching.{due-asks}
+
+-- something is missing: a request for it is due, unless one was made from there and the wait is not over
+pub due-so : (s : State) → Inv s → (first last : ℕ) → standing (s .kept) ≡ taken (missing first last)
+    → (sheet : Sheet) (rule : Patience) (elapsed : Float) (late : Bool) → waitOver sheet rule elapsed ≡ taken late → ((s .kept .asked .0 ≡ first) → ⊥) ⊎ (late ≡ true)
+    → Due s first (min (last - first + 1) 65535)
+unfolding requestOf
+due-so s i first last e sheet rule elapsed late v d =
+    let m = standing-means (s .kept) (missing first last) e in
+    let w = asks-now (s .kept) sheet rule elapsed (hung-record s i) late v (m .2) (rw (m .0) at d) in
+    record { sheet = sheet; rule = rule; elapsed = elapsed; after = askedNow (s .kept); wish = rw (m .0, m .1) w }
+
+-- an answer to one of a packet's requests is among the answers to the packet
+in-turn : (u : State) (room first count : ℕ) (d : List ℕ) → answerReply (u .log) (u .lent) first count room ≡ taken d → (ms : List Message) → List·Memᴰ (request first count) ms → List·Memᴰ d (toEach u room ms)
+unfolding sent
+in-turn u room first count d e ms (List·Memᴰ·head {x = m} {xs = others} q) =
+    let a : toMessage u room (request first count) ≡ d ∷ [] = rw e in
+    let b : List·Memᴰ d (toMessage u room m) = rw (← q, a) (List·Memᴰ·head refl) in
+    Memᴰ·append-left (toEach u room others) b
+in-turn u room first count d e ms (List·Memᴰ·tail {x = m} {xs = others} q) = Memᴰ·append-right (toMessage u room m) (in-turn u room first count d e others q)
+
+module _ (s u : State) (i : Inv s) (first count : ℕ) (due : Due s first count) (roomUp : ℕ) (r : Run (made s due roomUp) u) where
+  g : Good (made s due roomUp) u
+  g = along r (good s (asks (due .sheet) (due .rule) (due .elapsed) roomUp) tt i .inv)
+
+  fit : FitMessage (request first count)
+  fit =
+      let a = due-asks s first count due in
+      let n = few-in (s .log) (s .lent) (i .hung .whole) in
+      (omega (arith, a .from, i .hold .one), omega (arith, a .from, a .lacks, i .hold .known), omega (arith, a .many), omega (arith, a .many))
+
+  pub asked : 1472 ≤ roomUp → Asked u first count
+  unfolding sent
+  asked e =
+      let d : List ℕ = frame (writeMessage (request first count)) in
+      let z : length d ≤ roomUp = omega (arith, length-frame (writeMessage (request first count)), length-message (request first count) fit) in
+      let l : reply (request first count) roomUp ≡ taken d = reply-fit (request first count) roomUp fit ∙ enough-room d roomUp z in
+      let m : List·Memᴰ d (made s due roomUp .up) = rw (due .wish, l) (Memᴰ·append-right (s .up) (List·Memᴰ·head refl)) in
+      record { datagram = d; room = roomUp; laid = l; sent = g .later .up d m; reads = read-one (request first count) fit }
+
+  pub answered : (datagram : List ℕ) (ms : List Message) (room : ℕ) → readUp datagram ≡ taken ms → List·Memᴰ (request first count) ms → 1472 ≤ room → Answered u datagram first count room
+  unfolding toPacket
+  answered datagram ms room e m h =
+      let d : List ℕ = ufo.write (answerTo (u .log .ended) (logged u) first count) in
+      let l : answerReply (u .log) (u .lent) first count room ≡ taken d = answered-so (u .log) (u .lent) (g .inv .hung) first count room (fit .0) (fit .2) h in
+      record { answer = d; laid = l; sent = rw e (Memᴰ·append-right (u .down) (in-turn u room first count d l ms m)) }
+
+-- where the line carries the request and its answer, the exchange is had
+pub exchange : (s : State) → Inv s → (first count : ℕ) → Due s first count → (t : State) × Exchange s t
+exchange s i first count due =
+    let u : State = made s due 1472 in
+    let a : Asked u first count = asked s u i first count due 1472 stop (omega arith) in
+    let b : Answered u (a .datagram) first count 1472 =
+    answered s u i first count due 1472 stop (a .datagram) (request first count ∷ []) 1472 (a .reads) (List·Memᴰ·head refl) (omega arith) in
+    let w : State = step u (serves (a .datagram) 1472) in (
+      step w (takes (b .answer) 1472),
+      record {
+        first = first;
+        count = count;
+        due = due;
+        roomUp = 1472;
+        u = u;
+        run = stop;
+        datagram = b .answer;
+        roomDown = 1472;
+        answer = b .laid;
+        w = w;
+        later = then stop (serves (a .datagram) 1472) (a .sent);
+        arrives = b .sent;
+        roomOut = 1472;
+        enough = omega arith;
+        left = refl;
+      },
+    )

@@ -1,0 +1,92 @@
+-- The words of what is promised: delivered, the outcome at the end, an exchange.
+-- Assumes nothing.
+use Prim.Native.Nat.{ℕ, suc, _+_, _-_, _≤_, _<_}
+use mathlib.Core.Path.{_≡_}
+use mathlib.Core.Logic.{_↔_}
+use mathlib.Core.List.{List, [], _∷_}
+use mathlib.Core.Bool.{true}
+use lib.Ieee.{Float}
+use lib.ListN.{length, take, getD}
+use Rattle.wire.specs.Checks.{taken}
+use Rattle.blocks.specs.Blocks.{frames}
+use Rattle.ufo.specs.Up.{request, readUp}
+use Rattle.ufo.specs.WriteUp.{reply}
+use Rattle.clock.specs.declared.sheet.Sheet.{Sheet}
+use Rattle.clock.specs.declared.patience.Patience.{Patience}
+use Rattle.lend.specs.Log.{hangs}
+use Rattle.lend.specs.Answer.{answerReply}
+use Rattle.record.specs.Standing.{complete, missing, standing}
+use Rattle.record.specs.Asking.{request as wanted, asking}
+use Rattle.record.specs.declared.Record.{Record}
+use Rattle.session.specs.Session.{_among_, State, logged, serves, takes, asks, step, Run}
+
+-- the log hangs together, and the deliveries are its messages up to N, and its very bytes
+pub record Faithful (s : State) : Type 0 where
+  pub hung : hangs (s .log) (s .lent) ≡ true
+  pub begun : s .deliveries ≡ take (s .kept .next .0 - 1) (logged s)
+  pub inside : s .kept .next .0 ≤ length (logged s) + 1
+  pub bytes : frames (s .deliveries) ≡ take (length (frames (s .deliveries))) (s .lent)
+
+-- message n of the log has been delivered, as the n-th of all
+pub record Delivered (s : State) (n : ℕ) : Type 0 where
+  pub some : 1 ≤ n
+  pub within : n ≤ length (s .deliveries)
+  pub same : getD (s .deliveries) (n - 1) [] ≡ getD (logged s) (n - 1) []
+
+-- how the record stands: complete, with the whole log; or something is missing, which is exactly what was not delivered
+pub data Outcome (s : State) : Type 0 where
+  whole : standing (s .kept) ≡ taken complete → s .deliveries ≡ logged s → Outcome s
+  lacks : (first last : ℕ)
+      → standing (s .kept) ≡ taken (missing first last)
+      → ((n : ℕ) → ((first ≤ n) × (n ≤ last)) ↔ ((length (s .deliveries) < n) × (n ≤ length (logged s))))
+      → Outcome s
+
+-- a request for these numbers is due
+pub record Due (s : State) (first count : ℕ) : Type 0 where
+  pub sheet : Sheet
+  pub rule : Patience
+  pub elapsed : Float
+  pub after : Record
+  pub wish : asking (s .kept) sheet rule elapsed ≡ taken (wanted first count after)
+
+-- the state once it is made
+abbrev pub made : (s : State) {first count : ℕ} → Due s first count → ℕ → State
+made s d room = step s (asks (d .sheet) (d .rule) (d .elapsed) room)
+
+-- the request stands on the line as the datagram that its writer lays down, and is read as what it is
+pub record Asked (u : State) (first count : ℕ) : Type 0 where
+  pub datagram : List ℕ
+  pub room : ℕ
+  pub laid : reply (request first count) room ≡ taken datagram
+  pub sent : datagram among u .up
+  pub reads : readUp datagram ≡ taken (request first count ∷ [])
+
+-- a datagram that the server is handed in u puts the answer to these numbers on the line
+pub record Answered (u : State) (datagram : List ℕ) (first count room : ℕ) : Type 0 where
+  pub answer : List ℕ
+  pub laid : answerReply (u .log) (u .lent) first count room ≡ taken answer
+  pub sent : answer among step u (serves datagram room) .down
+
+-- A request is due in s and is made. Later, in u, the server answers its numbers by a datagram. Later still, in w, that
+-- datagram arrives and is taken, which leaves t. Whatever else may happen in between.
+pub record Exchange (s t : State) : Type 0 where
+  pub first : ℕ
+  pub count : ℕ
+  pub due : Due s first count
+  pub roomUp : ℕ
+  pub u : State
+  pub run : Run (made s due roomUp) u
+  pub datagram : List ℕ
+  pub roomDown : ℕ
+  pub answer : answerReply (u .log) (u .lent) first count roomDown ≡ taken datagram
+  pub w : State
+  pub later : Run u w
+  pub arrives : datagram among w .down
+  pub roomOut : ℕ
+  pub enough : 1472 ≤ roomOut
+  pub left : t ≡ step w (takes datagram roomOut)
+
+-- so many exchanges one after another, and whatever else may happen before, between and after them
+pub data Exchanges (s : State) : ℕ → State → Type 0 where
+  none : {t : State} → Run s t → Exchanges s 0 t
+  more : {n : ℕ} {t u w : State} → Exchanges s n t → Exchange t u → Run u w → Exchanges s (suc n) w
