@@ -1,0 +1,4 @@
+pub mod Counting
+pub mod Settled
+pub mod Rules
+pub mod Unfit

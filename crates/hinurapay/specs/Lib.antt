@@ -1,0 +1,11 @@
+pub mod Flag
+pub mod Packets
+pub mod Readers
+pub mod Writers
+pub mod Wrote
+pub mod Block
+pub mod Keeping
+pub mod Opening
+pub mod Waiting
+pub mod Asking
+pub mod Lending
