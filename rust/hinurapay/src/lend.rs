@@ -1,0 +1,86 @@
+//! The lending end: a log of messages in lent bytes, and UFO packets out of it.
+
+use crate::flat::{
+    hp_log, hp_log_add, hp_log_answer, hp_log_declare_end, hp_log_end_packet, hp_log_heartbeat,
+    hp_logged, hp_wrote,
+};
+use crate::refusal::{taken, Refusal};
+
+/// A log over bytes that are lent to it. Every call passes over the log once.
+///
+/// ```
+/// use hinurapay::{Log, Refusal};
+///
+/// let mut bytes = [0; 100];
+/// let mut log = Log::over(&mut bytes);
+/// log.add(b"HI")?;
+/// log.add(b"")?;
+/// let mut out = [0; 1472];
+/// let length = log.answer(1, 9, &mut out)?;
+/// assert_eq!(&out[..length], b"S\0\0\0\x01\0\x02\0\x02HI\0\0");
+/// assert_eq!(log.end_packet(&mut out), Err(Refusal::Contradiction));
+/// log.declare_end()?;
+/// assert_eq!(log.add(b"more"), Err(Refusal::AfterEnd));
+/// # Ok::<(), hinurapay::Refusal>(())
+/// ```
+#[derive(Debug)]
+pub struct Log<'a> {
+    bytes: &'a mut [u8],
+    log: hp_log,
+}
+
+impl<'a> Log<'a> {
+    /// An empty log.
+    pub fn over(bytes: &'a mut [u8]) -> Log<'a> {
+        let log = hp_log::default();
+        Log { bytes, log }
+    }
+
+    /// How many messages there are.
+    pub fn count(&self) -> u64 {
+        self.log.count
+    }
+
+    /// The blocks of its messages.
+    pub fn blocks(&self) -> &[u8] {
+        &self.bytes[..self.log.used as usize]
+    }
+
+    /// Adds a message; 13, 2 (over 1,463 bytes), 7, 9.
+    pub fn add(&mut self, message: &[u8]) -> Result<(), Refusal> {
+        let logged = hp_log_add(self.log, self.bytes, message);
+        self.keep(logged)
+    }
+
+    /// Declares the end; 13.
+    pub fn declare_end(&mut self) -> Result<(), Refusal> {
+        let logged = hp_log_declare_end(self.log, self.bytes);
+        self.keep(logged)
+    }
+
+    /// Answers a request for `count` messages from `first` on, into at least 1,472 bytes: as many
+    /// of them as there are and as one packet holds, or past the log's end a heartbeat or the end.
+    /// Says how many bytes the packet has; 6, 9.
+    pub fn answer(&self, first: u32, count: u16, out: &mut [u8]) -> Result<usize, Refusal> {
+        written(hp_log_answer(self.log, self.bytes, first, count, out))
+    }
+
+    /// Writes a heartbeat, which names the next message to be sent; 9.
+    pub fn heartbeat(&self, out: &mut [u8]) -> Result<usize, Refusal> {
+        written(hp_log_heartbeat(self.log, self.bytes, out))
+    }
+
+    /// Writes the end packet; 12 before the end was declared, 9.
+    pub fn end_packet(&self, out: &mut [u8]) -> Result<usize, Refusal> {
+        written(hp_log_end_packet(self.log, self.bytes, out))
+    }
+
+    fn keep(&mut self, logged: hp_logged) -> Result<(), Refusal> {
+        self.log = logged.log;
+        taken(logged.refusal, ())
+    }
+}
+
+fn written(wrote: hp_wrote) -> Result<usize, Refusal> {
+    taken(wrote.refusal, wrote.bytes as usize)
+}

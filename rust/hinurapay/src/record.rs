@@ -1,0 +1,132 @@
+//! The session record: what a receiver has had, what it knows of, and what it lacks.
+
+use crate::clock::{Patience, Sheet};
+use crate::flat::{hp_ask, hp_open_memx, hp_open_ufo, hp_record, hp_standing_of, hp_take};
+use crate::kinds::{Name, Sequence, SessionId};
+use crate::refusal::{taken, Refusal};
+
+/// What is known of one session. It is changed where it lies, and only where nothing is refused.
+///
+/// ```
+/// use hinurapay::{Asked, Name, Patience, Record, Sequence, Sheet};
+///
+/// let mut record = Record::open_ufo(Name(*b"8841      "))?;
+/// let mut out = [0; 1472];
+/// // messages 1 and 2, "HI" and an empty one
+/// let taken = record.take(b"S\0\0\0\x01\0\x02\0\x02HI\0\0", &mut out)?;
+/// assert_eq!((taken.messages, taken.blocks), (2, &b"\0\x02HI\0\0"[..]));
+/// assert_eq!((record.next(), record.top()), (Sequence(3), Sequence(2)));
+///
+/// // a heartbeat that names 5 as the next: 3 and 4 are missing
+/// record.take(b"S\0\0\0\x05\0\0", &mut out)?;
+/// let asked = record.ask(&Sheet::default(), &Patience::Never, 0.0)?;
+/// assert_eq!(asked, Asked::Request { first: Sequence(3), count: 2 });
+/// # Ok::<(), hinurapay::Refusal>(())
+/// ```
+#[derive(Clone, Copy, Debug, PartialEq)]
+pub struct Record(hp_record);
+
+/// What taking a datagram delivered.
+#[derive(Clone, Copy, Debug, PartialEq, Eq)]
+pub struct Taken<'a> {
+    /// How many messages.
+    pub messages: u64,
+    /// Their blocks, which stand at the output's start.
+    pub blocks: &'a [u8],
+}
+
+/// How a record stands.
+#[derive(Clone, Copy, Debug, PartialEq, Eq)]
+pub struct Standing {
+    /// Whether the end was heard and every message was delivered.
+    pub complete: bool,
+    /// The first and the last number missing, if any are.
+    pub missing: Option<(Sequence, Sequence)>,
+}
+
+/// What to ask now.
+#[derive(Clone, Copy, Debug, PartialEq, Eq)]
+pub enum Asked {
+    /// Nothing is missing.
+    Nothing,
+    /// Something is missing that was asked for already: wait.
+    Wait,
+    /// Ask.
+    Request {
+        /// The first number wanted.
+        first: Sequence,
+        /// How many are wanted.
+        count: u16,
+    },
+}
+
+impl Record {
+    /// A fresh record of a UFO session; 5 or 6 for a name that could not stand in `A`.
+    pub fn open_ufo(name: Name) -> Result<Record, Refusal> {
+        let opened = hp_open_ufo(&name.0);
+        taken(opened.refusal, Record(opened.record))
+    }
+
+    /// A fresh record of a MEMX-UDP session.
+    pub fn open_memx(session: SessionId) -> Record {
+        Record(hp_open_memx(session.0).record)
+    }
+
+    /// The number of the next message to be delivered.
+    pub fn next(&self) -> Sequence {
+        Sequence(self.0.next)
+    }
+
+    /// The highest number known to be published.
+    pub fn top(&self) -> Sequence {
+        Sequence(self.0.top)
+    }
+
+    /// Whether the end was heard.
+    pub fn ended(&self) -> bool {
+        self.0.ended == 1
+    }
+
+    /// Takes a datagram and delivers the blocks that are next into the output; 10, the reader's
+    /// refusals, 16, 11, 12, 9.
+    pub fn take<'a>(&mut self, datagram: &[u8], out: &'a mut [u8]) -> Result<Taken<'a>, Refusal> {
+        let took = hp_take(self.0, datagram, out);
+        taken(took.refusal, ())?;
+        self.0 = took.record;
+        Ok(Taken {
+            messages: took.messages,
+            blocks: &out[..took.bytes as usize],
+        })
+    }
+
+    /// Whether the record is complete, and what is missing; 10.
+    pub fn standing(&self) -> Result<Standing, Refusal> {
+        let standing = hp_standing_of(self.0);
+        let missing = (Sequence(standing.first), Sequence(standing.last));
+        let answer = Standing {
+            complete: standing.complete == 1,
+            missing: (standing.missing == 1).then_some(missing),
+        };
+        taken(standing.refusal, answer)
+    }
+
+    /// What to ask now, `elapsed` milliseconds after asking last; 10, then 15.
+    pub fn ask(
+        &mut self,
+        sheet: &Sheet,
+        patience: &Patience,
+        elapsed: f64,
+    ) -> Result<Asked, Refusal> {
+        let asked = hp_ask(self.0, sheet.flat(), patience.flat(), elapsed);
+        taken(asked.refusal, ())?;
+        self.0 = asked.record;
+        Ok(match asked.what {
+            0 => Asked::Nothing,
+            1 => Asked::Wait,
+            _ => Asked::Request {
+                first: Sequence(asked.first),
+                count: asked.count as u16,
+            },
+        })
+    }
+}

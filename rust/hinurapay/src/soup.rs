@@ -1,0 +1,123 @@
+//! SoupTCP packets.
+
+use crate::blocks::part;
+use crate::flat::{hp_packet, hp_soup_read, hp_soup_write};
+use crate::kinds::{Name, Password, Reason, Sequence, User};
+use crate::refusal::{taken, Refusal};
+
+/// A packet; payloads are slices of the caller's bytes.
+#[derive(Clone, Copy, Debug, PartialEq, Eq)]
+pub enum Packet<'a> {
+    /// `+`: a remark.
+    Debug(&'a [u8]),
+    /// `S`: a message with a number.
+    Sequenced(&'a [u8]),
+    /// `U`: a message without one.
+    Unsequenced(&'a [u8]),
+    /// `H`: the server is there.
+    ServerHeartbeat,
+    /// `Z`: the session is over.
+    EndOfSession,
+    /// `R`: the client is there.
+    ClientHeartbeat,
+    /// `O`: the client leaves.
+    Logout,
+    /// `J`: the login is turned down.
+    Rejected(Reason),
+    /// `A`: the login is taken.
+    Accepted {
+        /// Into this session.
+        session: Name,
+        /// The number of the next message.
+        next: Sequence,
+    },
+    /// `L`: a login.
+    Login {
+        /// Who.
+        user: User,
+        /// Proved by this.
+        password: Password,
+        /// The session wanted, or blank.
+        session: Name,
+        /// The first message wanted; 0 for the latest.
+        next: Sequence,
+    },
+}
+
+/// Reads a packet; 1, 2, 3, 4, 8, 5, 6, 7.
+///
+/// ```
+/// use hinurapay::soup::{read, Packet};
+///
+/// assert_eq!(read(b"Shello\n"), Ok(Packet::Sequenced(b"hello")));
+/// assert_eq!(read(b"Shello").unwrap_err().number(), 4);
+/// ```
+pub fn read(packet: &[u8]) -> Result<Packet<'_>, Refusal> {
+    let read = hp_soup_read(packet);
+    let fields = taken(read.refusal, read.packet)?;
+    let payload = || part(packet, fields.start, fields.length);
+    let (session, next) = (Name(fields.name), Sequence(fields.number));
+    Ok(match fields.r#type {
+        b'+' => Packet::Debug(payload()),
+        b'S' => Packet::Sequenced(payload()),
+        b'U' => Packet::Unsequenced(payload()),
+        b'H' => Packet::ServerHeartbeat,
+        b'Z' => Packet::EndOfSession,
+        b'R' => Packet::ClientHeartbeat,
+        b'O' => Packet::Logout,
+        b'J' => Packet::Rejected(Reason::read(fields.reason)),
+        b'A' => Packet::Accepted { session, next },
+        _ => Packet::Login {
+            user: User(fields.user),
+            password: Password(fields.password),
+            session,
+            next,
+        },
+    })
+}
+
+/// Writes a packet and says how many bytes it has; refused as a reader would refuse it, then 9.
+///
+/// ```
+/// use hinurapay::soup::{write, Packet};
+///
+/// let mut out = [0; 8];
+/// assert_eq!(write(&Packet::Sequenced(b"hello"), &mut out), Ok(7));
+/// assert_eq!(&out[..7], b"Shello\n");
+/// ```
+pub fn write(packet: &Packet<'_>, out: &mut [u8]) -> Result<usize, Refusal> {
+    let mut fields = hp_packet::default();
+    let (kind, payload): (u8, &[u8]) = match *packet {
+        Packet::Debug(payload) => (b'+', payload),
+        Packet::Sequenced(payload) => (b'S', payload),
+        Packet::Unsequenced(payload) => (b'U', payload),
+        Packet::ServerHeartbeat => (b'H', &[]),
+        Packet::EndOfSession => (b'Z', &[]),
+        Packet::ClientHeartbeat => (b'R', &[]),
+        Packet::Logout => (b'O', &[]),
+        Packet::Rejected(reason) => {
+            fields.reason = reason as u8;
+            (b'J', &[])
+        }
+        Packet::Accepted { session, next } => {
+            fields.name = session.0;
+            fields.number = next.0;
+            (b'A', &[])
+        }
+        Packet::Login {
+            user,
+            password,
+            session,
+            next,
+        } => {
+            fields.user = user.0;
+            fields.password = password.0;
+            fields.name = session.0;
+            fields.number = next.0;
+            (b'L', &[])
+        }
+    };
+    fields.r#type = kind;
+    let wrote = hp_soup_write(fields, payload, out);
+    taken(wrote.refusal, wrote.bytes as usize)
+}

@@ -1,0 +1,54 @@
+//! The recording desk of document 01 in ordinary Rust, written from the paper alone.
+//!
+//! It stands beside the proved desk and shares nothing with it, so that the two can be held
+//! against each other case by case. [`flat`] has the shape of the C face; the other modules are
+//! what a Rust program would call.
+//!
+//! ```
+//! use ordinary::kinds::Name;
+//! use ordinary::record::Record;
+//!
+//! let record = Record::open_ufo(Name(*b"8841      "))?;
+//! let datagram = b"S\0\0\0\x01\0\x01\0\x02HI";
+//! let mut tape = [0; 16];
+//! let taken = record.take(datagram, &mut tape)?;
+//! assert_eq!(&tape[..taken.bytes], b"\0\x02HI");
+//! assert_eq!(taken.record.next.0, 2);
+//! # Ok::<(), ordinary::refusal::Refusal>(())
+//! ```
+//!
+//! # Where the paper is silent
+//!
+//! - Reading one upstream message at a place: 1 and 2 are about the whole packet that is lent,
+//!   everything else about the block at that place only, wherever the place lies.
+//! - A block's `start` is where its data begin, past the two length bytes.
+//! - A heartbeat `S`, and any packet whose payload is empty, still says where its blocks or its
+//!   payload would begin; the length is 0.
+//! - The Soup number `00` has a leading zero (5); only `0` itself spells 0.
+//! - Writing a type that there is not: the packet would be the bytes that every packet of the
+//!   protocol has around the body (UFO 1, an upstream block 3, MEMX-UDP 18, Soup 2), so it is 2
+//!   where those and the body are over the limit, else 3.
+//! - A Soup reject whose reason is a linefeed is refused in writing as 8, as in reading.
+//! - A UFO request has no bound but its bytes.
+//! - Minus zero lies between 0 and any bound. The wait of 1000 while nothing was timed is held
+//!   between floor and ceiling too.
+//! - Asking refuses a rule or an elapsed time out of range (15) even if nothing is missing.
+//! - Adding many messages at once: 10, then 4 if their blocks don't end exactly at the end, then
+//!   what the first message that is refused gives; no messages at all are taken even after the end.
+
+#![forbid(unsafe_code)]
+#![warn(missing_docs)]
+
+pub mod blocks;
+pub mod clock;
+mod decimal;
+mod fields;
+pub mod flat;
+pub mod kinds;
+pub mod lend;
+pub mod memx;
+pub mod record;
+pub mod refusal;
+pub mod soup;
+pub mod text;
+pub mod ufo;

@@ -1,0 +1,190 @@
+//! SoupTCP 3.00: packets of a type, a payload and a linefeed, in both directions.
+
+use crate::decimal;
+use crate::fields::{lay, take};
+use crate::kinds::{Name, Password, Reason, Sequence, User};
+use crate::refusal::Refusal;
+use crate::text;
+
+/// The most bytes that a packet may have.
+pub const LIMIT: usize = 1 + PAYLOAD_LIMIT + 1;
+
+/// The most bytes that a payload may have.
+const PAYLOAD_LIMIT: usize = 4096;
+
+const LINEFEED: u8 = b'\n';
+
+/// A packet in either direction.
+#[derive(Clone, Copy, Debug, PartialEq, Eq)]
+pub enum Packet<'a> {
+    /// `+`: words for whoever looks for a fault.
+    Debug(
+        /// The words.
+        &'a [u8],
+    ),
+    /// `A`, from the server: logged in to this session.
+    Accepted {
+        /// The session, which may not be blank.
+        session: Name,
+        /// The number that the next message will have.
+        next: Sequence,
+    },
+    /// `J`, from the server: not logged in.
+    Rejected {
+        /// Why not.
+        reason: Reason,
+    },
+    /// `S`, from the server: the next message.
+    Sequenced(
+        /// The message.
+        &'a [u8],
+    ),
+    /// `H`: the server is still there.
+    ServerHeartbeat,
+    /// `Z`, from the server: the session has ended.
+    EndOfSession,
+    /// `L`, from the client: asks to be logged in.
+    Login {
+        /// Who asks.
+        user: User,
+        /// The user's password.
+        password: Password,
+        /// The session wanted, blank for the one that is running.
+        session: Name,
+        /// The number of the first message wanted, 0 for the latest.
+        next: Sequence,
+    },
+    /// `U`, from the client: a message without a number.
+    Unsequenced(
+        /// The message.
+        &'a [u8],
+    ),
+    /// `R`: the client is still there.
+    ClientHeartbeat,
+    /// `O`: the client leaves.
+    Logout,
+}
+
+/// Reads a packet; 1, 2, 3, 4, 8, 5, 6, 7.
+pub fn read(packet: &[u8]) -> Result<Packet<'_>, Refusal> {
+    let (&kind, rest) = packet.split_first().ok_or(Refusal::Empty)?;
+    if packet.len() > LIMIT {
+        return Err(Refusal::Oversize);
+    }
+    let fixed = fixed_payload(kind)?;
+    match rest.split_last() {
+        Some((&LINEFEED, payload)) if fixed.is_none_or(|length| length == payload.len()) => {
+            read_payload(kind, payload)
+        }
+        _ => Err(Refusal::Framing),
+    }
+}
+
+/// How many bytes the payload of a type has, if that is fixed; a type that there is not is 3.
+fn fixed_payload(kind: u8) -> Result<Option<usize>, Refusal> {
+    match kind {
+        b'+' | b'S' | b'U' => Ok(None),
+        b'H' | b'Z' | b'R' | b'O' => Ok(Some(0)),
+        b'J' => Ok(Some(1)),
+        b'A' => Ok(Some(10 + 20)),
+        b'L' => Ok(Some(6 + 10 + 10 + 20)),
+        _ => Err(Refusal::UnknownType),
+    }
+}
+
+/// Reads what stands between the type and the last linefeed: 8, 5, 6, 7.
+fn read_payload(kind: u8, payload: &[u8]) -> Result<Packet<'_>, Refusal> {
+    if payload.contains(&LINEFEED) {
+        return Err(Refusal::Linefeed);
+    }
+    let mut rest = payload;
+    match kind {
+        b'+' => Ok(Packet::Debug(payload)),
+        b'S' => Ok(Packet::Sequenced(payload)),
+        b'U' => Ok(Packet::Unsequenced(payload)),
+        b'H' => Ok(Packet::ServerHeartbeat),
+        b'Z' => Ok(Packet::EndOfSession),
+        b'R' => Ok(Packet::ClientHeartbeat),
+        b'O' => Ok(Packet::Logout),
+        b'J' => {
+            let [reason] = take(&mut rest)?;
+            let reason = Reason(reason);
+            let rejected = Packet::Rejected { reason };
+            reason.is_known().then_some(rejected).ok_or(Refusal::Form)
+        }
+        b'A' => {
+            let session = take(&mut rest)?;
+            let number = take(&mut rest)?;
+            text::padded_left(&session)?;
+            let digits = decimal::digits(&number)?;
+            text::not_blank(&session)?;
+            if matches!(digits, b"" | b"0") {
+                return Err(Refusal::Blank);
+            }
+            Ok(Packet::Accepted {
+                session: Name(session),
+                next: Sequence(decimal::value(digits)?),
+            })
+        }
+        b'L' => {
+            let user = take(&mut rest)?;
+            let password = take(&mut rest)?;
+            let session = take(&mut rest)?;
+            let number = take(&mut rest)?;
+            text::padded_right(&user)?;
+            text::padded_right(&password)?;
+            text::padded_left(&session)?;
+            let digits = decimal::digits(&number)?;
+            if digits.is_empty() {
+                return Err(Refusal::Blank);
+            }
+            Ok(Packet::Login {
+                user: User(user),
+                password: Password(password),
+                session: Name(session),
+                next: Sequence(decimal::value(digits)?),
+            })
+        }
+        _ => Err(Refusal::UnknownType),
+    }
+}
+
+/// Writes a packet onto the slip and says how many bytes it has. It is refused as a reader would
+/// refuse the packet; then 9.
+pub fn write(packet: &Packet<'_>, slip: &mut [u8]) -> Result<usize, Refusal> {
+    match *packet {
+        Packet::Debug(payload) => close(b'+', payload, slip),
+        Packet::Sequenced(payload) => close(b'S', payload, slip),
+        Packet::Unsequenced(payload) => close(b'U', payload, slip),
+        Packet::ServerHeartbeat => close(b'H', b"", slip),
+        Packet::EndOfSession => close(b'Z', b"", slip),
+        Packet::ClientHeartbeat => close(b'R', b"", slip),
+        Packet::Logout => close(b'O', b"", slip),
+        Packet::Rejected { reason } => close(b'J', &[reason.0], slip),
+        Packet::Accepted { session, next } => {
+            let mut payload = [0; 10 + 20];
+            lay(&[&session.0, &decimal::field(next.0)], &mut payload)?;
+            close(b'A', &payload, slip)
+        }
+        Packet::Login {
+            user,
+            password,
+            session,
+            next,
+        } => {
+            let mut payload = [0; 6 + 10 + 10 + 20];
+            let number = decimal::field(next.0);
+            lay(&[&user.0, &password.0, &session.0, &number], &mut payload)?;
+            close(b'L', &payload, slip)
+        }
+    }
+}
+
+/// Puts the type before a payload and the linefeed after it, if a reader would take that.
+fn close(kind: u8, payload: &[u8], slip: &mut [u8]) -> Result<usize, Refusal> {
+    if payload.len() > PAYLOAD_LIMIT {
+        return Err(Refusal::Oversize);
+    }
+    read_payload(kind, payload)?;
+    lay(&[&[kind], payload, &[LINEFEED]], slip)
+}

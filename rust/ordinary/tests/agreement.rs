@@ -1,0 +1,281 @@
+//! Readers and writers held against each other over many packets, damaged ones among them.
+
+mod common;
+
+use common::{blocks, memx, memx_data, soup_a, soup_l, ufo_e, ufo_s, Dice};
+use ordinary::flat::*;
+use ordinary::kinds::Name;
+use ordinary::record::Record;
+
+type Reader = fn(&[u8]) -> hp_read;
+type Writer = fn(hp_packet, &[u8], &mut [u8]) -> hp_wrote;
+
+fn read_one_message(packet: &[u8]) -> hp_read {
+    let whole = hp_ufo_read_up(packet);
+    if whole.refusal != 0 || whole.packet.count != 1 {
+        return whole;
+    }
+    hp_ufo_read_message(packet, 0)
+}
+
+/// Damages a packet in one of several ways, or not at all.
+fn damage(packet: &mut Vec<u8>, dice: &mut Dice) {
+    let place = dice.below(packet.len().max(1));
+    match dice.below(8) {
+        0 => packet.truncate(place),
+        1 => packet.push(dice.pick(b"\n \0x")),
+        2 if !packet.is_empty() => packet[place] = dice.pick(b"\n \0x19Z\xff"),
+        3 if !packet.is_empty() => packet[place] ^= 1 << dice.below(8),
+        4 if !packet.is_empty() => _ = packet.remove(place),
+        5 => packet.insert(place, dice.pick(b"\n \0x0")),
+        _ => {}
+    }
+}
+
+fn specimen(protocol: usize, dice: &mut Dice) -> Vec<u8> {
+    let count = dice.below(4);
+    let messages: Vec<Vec<u8>> = (0..count)
+        .map(|_| {
+            let size = dice.pick(&[0, 0, 1, 5, 30]);
+            dice.bytes(size)
+        })
+        .collect();
+    let lent: Vec<&[u8]> = messages.iter().map(Vec::as_slice).collect();
+    let first = dice.pick(&[0, 1, 6, u32::MAX - 3, u32::MAX - 1, u32::MAX]);
+    let text = dice.pick(&["", "8841", "ABCdefghij", "a b", "x"]);
+    let digits = dice.pick(&[
+        "",
+        "0",
+        "1",
+        "00",
+        "42",
+        "18446744073709551615",
+        "18446744073709551616",
+    ]);
+    match protocol {
+        0 => match dice.below(4) {
+            0 => {
+                let name = format!("{text:<10}").into_bytes();
+                [b"A", &name[..], &first.to_be_bytes()].concat()
+            }
+            1 => vec![b'J', dice.pick(b"ASB\n")],
+            2 => ufo_s(first, &lent),
+            _ => ufo_e(first),
+        },
+        1 => {
+            let message = match dice.below(5) {
+                0 => format!("L{:<6}{text:<10}{text:<10}", "user1").into_bytes(),
+                1 => {
+                    let count = dice.pick(&[0, 1, u16::MAX]);
+                    [b"T", &first.to_be_bytes()[..], &count.to_be_bytes()].concat()
+                }
+                2 => [b"U", &lent.concat()[..]].concat(),
+                3 => b"R".to_vec(),
+                _ => b"O".to_vec(),
+            };
+            blocks(&[&message])
+        }
+        2 => {
+            let number = dice.pick(&[0, 1, 9, u64::MAX - 3, u64::MAX - 1, u64::MAX]);
+            match dice.below(3) {
+                0 => memx(0, 7, number),
+                1 => memx(1, 7, number),
+                _ => memx_data(7, number, &lent),
+            }
+        }
+        _ => match dice.below(7) {
+            0 => soup_a(text, digits),
+            1 => soup_l("me", text, text, digits),
+            2 => vec![b'J', dice.pick(b"ASB\n"), b'\n'],
+            3 => common::soup(dice.pick(b"HZRO"), b""),
+            _ => common::soup(dice.pick(b"+SU"), &lent.concat()),
+        },
+    }
+}
+
+const PROTOCOLS: [(Reader, Writer); 4] = [
+    (hp_ufo_read_down, hp_ufo_write_down),
+    (read_one_message, hp_ufo_write_message),
+    (hp_memx_read, hp_memx_write),
+    (hp_soup_read, hp_soup_write),
+];
+
+#[test]
+fn whatever_a_reader_takes_is_written_again_as_it_was() {
+    for (protocol, (read, write)) in PROTOCOLS.into_iter().enumerate() {
+        let mut dice = Dice::seeded(protocol as u64);
+        let mut seen = [0; 9];
+        for _ in 0..10_000 {
+            let mut packet = specimen(protocol, &mut dice);
+            damage(&mut packet, &mut dice);
+            let answer = read(&packet);
+            seen[answer.refusal as usize] += 1;
+            if answer.refusal != 0 {
+                assert_eq!(answer.packet, hp_packet::default(), "{packet:?}");
+                continue;
+            }
+            let fields = answer.packet;
+            if protocol == 1 && fields.r#type == 0 {
+                continue; // damage made it two messages
+            }
+            let body = &packet[fields.start as usize..][..fields.length as usize];
+            let mut out = vec![0xee; packet.len() + 3];
+            let wrote = write(fields, body, &mut out);
+            assert_eq!((wrote.refusal, wrote.bytes), (0, packet.len() as u64));
+            assert_eq!(out[..packet.len()], packet);
+            assert_eq!(out[packet.len()..], [0xee; 3]);
+        }
+        assert!(seen[0] > 1000, "only {} were taken", seen[0]);
+        let given = [3, 4, 5, 6].map(|refusal| seen[refusal]);
+        assert!(given.iter().all(|&times| times > 25), "{seen:?}");
+    }
+}
+
+/// The packet that would be written for these fields, whether or not it is lawful. A number too
+/// wide for its field is laid as 1; the second answer says whether that was so.
+fn laid(protocol: usize, fields: &hp_packet, body: &[u8]) -> (Vec<u8>, bool) {
+    let wide = fields.number > u64::from(u32::MAX);
+    let four = if wide { 1 } else { fields.number as u32 }.to_be_bytes();
+    let eight = fields.number.to_be_bytes();
+    let count = fields.count.to_be_bytes();
+    let hp_packet {
+        user,
+        password,
+        name,
+        reason,
+        ..
+    } = *fields;
+    let kind = [fields.r#type];
+    let digits = format!("{:>20}", fields.number).into_bytes();
+    let session = fields.session.to_be_bytes();
+    let (fixed, narrow): (Vec<&[u8]>, bool) = match (protocol, fields.r#type) {
+        (0, b'A') => (vec![&kind, &name, &four], true),
+        (0, b'J') => (vec![&kind, std::slice::from_ref(&reason)], false),
+        (0, b'S') => (vec![&kind, &four, &count], true),
+        (0, b'E') => (vec![&kind, &four], true),
+        (1, b'L') => (vec![&kind, &user, &password, &name], false),
+        (1, b'T') => (vec![&kind, &four, &count], true),
+        (2, 2) => (vec![&kind, &[18], &session, &eight, &count], false),
+        (2, _) => (vec![&kind, &[18], &session, &eight], false),
+        (3, b'J') => (vec![&kind, std::slice::from_ref(&reason)], false),
+        (3, b'A') => (vec![&kind, &name, &digits], false),
+        (3, b'L') => (vec![&kind, &user, &password, &name, &digits], false),
+        _ => (vec![&kind], false),
+    };
+    let mut packet = fixed.concat();
+    packet.extend(body);
+    match protocol {
+        1 => packet = blocks(&[&packet]),
+        3 => packet.push(b'\n'),
+        _ => {}
+    }
+    (packet, wide && narrow)
+}
+
+#[test]
+fn a_writer_refuses_as_the_reader_would_refuse_the_packet() {
+    let types: [&[u8]; 4] = [b"AJSEX", b"LTUROX", &[0, 1, 2, 3], b"+SUHZROJALX\n"];
+    for (protocol, (read, write)) in PROTOCOLS.into_iter().enumerate() {
+        let mut dice = Dice::seeded(1000 + protocol as u64);
+        let limit = if protocol == 3 { 4098 } else { 1472 };
+        let mut seen = [0; 9];
+        for _ in 0..10_000 {
+            let name = [b"8841      ", b"      8841", b"          ", b"8 841     "];
+            let mut fields = hp_packet {
+                r#type: dice.pick(types[protocol]),
+                reason: dice.pick(b"ASB\n"),
+                count: dice.pick(&[0, 1, 2, u16::MAX]),
+                user: *dice.pick(&[b"user1 ", b"      ", b" user "]),
+                password: *dice.pick(&[b"password  ", b"          ", b" password "]),
+                name: *dice.pick(&name),
+                session: dice.roll(),
+                number: dice.pick(&[
+                    0,
+                    1,
+                    77,
+                    u64::from(u32::MAX) - 1,
+                    u64::from(u32::MAX),
+                    u64::from(u32::MAX) + 1,
+                    u64::MAX - 1,
+                    u64::MAX,
+                ]),
+                start: dice.roll(),
+                length: dice.roll(),
+                next: dice.roll(),
+            };
+            if dice.one_in(12) {
+                fields.name[dice.below(10)] = dice.pick(b"\n-\0");
+            }
+            let messages = [&b""[..], b"a", b"bc"];
+            let body = match dice.below(6) {
+                0 => blocks(&messages[..1 + dice.below(2)]),
+                1 => dice.pick(&[&b"abc"[..], b"a\nb", b"\0"]).to_vec(),
+                2 => vec![0; limit - dice.below(50)],
+                3 => {
+                    let length = limit - 2 - dice.below(30);
+                    blocks(&[&vec![b'x'; length]])
+                }
+                _ => vec![],
+            };
+            let (packet, wide) = laid(protocol, &fields, &body);
+            let expected = match read(&packet).refusal {
+                0 if wide => 7,
+                refusal => refusal,
+            };
+            seen[expected as usize] += 1;
+            let mut out = [0xee; 5000];
+            let wrote = write(fields, &body, &mut out);
+            let bytes = if expected == 0 { packet.len() } else { 0 };
+            assert_eq!(wrote.refusal, expected, "{fields:?} {body:?}");
+            assert_eq!(wrote.bytes, bytes as u64);
+            assert_eq!(out[..bytes], packet[..bytes]);
+            assert_eq!(out[bytes..], [0xee; 5000][bytes..]);
+        }
+        for refusal in [0, 2, 3, 4, 6, 7] {
+            // Soup's numbers fit their field whatever they are
+            let never = protocol == 3 && refusal == 7;
+            assert_eq!(seen[refusal] == 0, never, "{refusal} in {protocol}");
+        }
+    }
+}
+
+#[test]
+fn a_refused_datagram_leaves_record_and_tape_alone() {
+    let mut dice = Dice::seeded(16);
+    let mut record = Record::open_ufo(Name(*b"8841      ")).unwrap();
+    let mut seen = [0; 17];
+    for turn in 0..10_000 {
+        if turn % 50 == 0 {
+            record = Record::open_ufo(Name(*b"8841      ")).unwrap();
+        }
+        let count = 1 + dice.below(4) as u16;
+        let first = 1 + dice.below(12) as u32;
+        let mut datagram = match dice.below(6) {
+            0 => ufo_s(first, &[]),
+            1 => ufo_e(first),
+            2 => specimen(0, &mut dice),
+            _ => common::ufo_numbered(first, count),
+        };
+        damage(&mut datagram, &mut dice);
+        let mut tape = [0xee; 30];
+        let before = record;
+        match record.take_in_place(&datagram, &mut tape) {
+            Ok(taken) => {
+                assert_eq!(record.check(), Ok(()));
+                assert_eq!(record.next.0 - before.next.0, taken.messages);
+                assert!(record.top >= before.top && record.ended >= before.ended);
+                assert!(tape[taken.bytes..].iter().all(|&byte| byte == 0xee));
+                let delivered = ordinary::blocks::Blocks::over(&tape[..taken.bytes]);
+                assert_eq!(delivered.count() as u64, taken.messages);
+                seen[0] += 1;
+            }
+            Err(refusal) => {
+                assert_eq!((record, tape), (before, [0xee; 30]));
+                seen[usize::from(refusal.number())] += 1;
+            }
+        }
+    }
+    for refusal in [0, 3, 4, 5, 6, 7, 9, 12, 16] {
+        assert!(seen[refusal] > 10, "{refusal}: {}", seen[refusal]);
+    }
+}

@@ -1,0 +1,854 @@
+//! The flat face: the numbers it gives, what it hands back, and what a raw byte may not be.
+
+mod common;
+
+use common::{blocks, memx, memx_data, soup_a, soup_l, ufo_e, ufo_numbered, ufo_s};
+use ordinary::flat::*;
+
+/// The answer of a reader that refuses.
+fn no(refusal: u64) -> hp_read {
+    hp_read {
+        refusal,
+        packet: hp_packet::default(),
+    }
+}
+
+fn yes(packet: hp_packet) -> hp_read {
+    hp_read { refusal: 0, packet }
+}
+
+fn kind(r#type: u8) -> hp_packet {
+    hp_packet {
+        r#type,
+        ..hp_packet::default()
+    }
+}
+
+fn wrote(refusal: u64, bytes: u64) -> hp_wrote {
+    hp_wrote { refusal, bytes }
+}
+
+#[test]
+fn soup_is_read() {
+    for (packet, read) in [
+        (
+            b"+\n".to_vec(),
+            hp_packet {
+                start: 1,
+                ..kind(b'+')
+            },
+        ),
+        (
+            b"Sabc\n".to_vec(),
+            hp_packet {
+                start: 1,
+                length: 3,
+                ..kind(b'S')
+            },
+        ),
+        (
+            b"U \n".to_vec(),
+            hp_packet {
+                start: 1,
+                length: 1,
+                ..kind(b'U')
+            },
+        ),
+        (b"H\n".to_vec(), kind(b'H')),
+        (b"Z\n".to_vec(), kind(b'Z')),
+        (b"R\n".to_vec(), kind(b'R')),
+        (b"O\n".to_vec(), kind(b'O')),
+        (
+            b"JS\n".to_vec(),
+            hp_packet {
+                reason: b'S',
+                ..kind(b'J')
+            },
+        ),
+        (
+            soup_a("8841", "42"),
+            hp_packet {
+                name: *b"      8841",
+                number: 42,
+                ..kind(b'A')
+            },
+        ),
+        (
+            soup_l("me", "secret", "8841", "0"),
+            hp_packet {
+                user: *b"me    ",
+                password: *b"secret    ",
+                name: *b"      8841",
+                ..kind(b'L')
+            },
+        ),
+    ] {
+        assert_eq!(hp_soup_read(&packet), yes(read), "{packet:?}");
+    }
+    assert_eq!(hp_soup_read(b""), no(1));
+    assert_eq!(hp_soup_read(b"J\n\n"), no(8));
+    assert_eq!(hp_soup_read(&soup_a("", "42")), no(6));
+}
+
+#[test]
+fn ufo_is_read() {
+    let accept = b"A8841      \0\0\x01\0";
+    for (packet, read) in [
+        (
+            accept.to_vec(),
+            hp_packet {
+                name: *b"8841      ",
+                number: 256,
+                ..kind(b'A')
+            },
+        ),
+        (
+            b"JA".to_vec(),
+            hp_packet {
+                reason: b'A',
+                ..kind(b'J')
+            },
+        ),
+        (
+            ufo_s(6, &[b"HI", b""]),
+            hp_packet {
+                number: 6,
+                count: 2,
+                start: 7,
+                length: 6,
+                ..kind(b'S')
+            },
+        ),
+        (
+            ufo_s(6, &[]),
+            hp_packet {
+                number: 6,
+                start: 7,
+                ..kind(b'S')
+            },
+        ),
+        (
+            ufo_e(9),
+            hp_packet {
+                number: 9,
+                ..kind(b'E')
+            },
+        ),
+    ] {
+        assert_eq!(hp_ufo_read_down(&packet), yes(read), "{packet:?}");
+    }
+    assert_eq!(hp_ufo_read_down(&[b'S'; 1473]), no(2));
+    assert_eq!(hp_ufo_read_down(&ufo_s(u32::MAX, &[b""])), no(7));
+}
+
+#[test]
+fn upstream_is_read() {
+    let packet = blocks(&[
+        b"Luser1 password  8841      ",
+        b"T\0\0\0\x03\0\x02",
+        b"Uabc",
+        b"R",
+        b"O",
+    ]);
+    let whole = hp_packet {
+        count: 5,
+        ..hp_packet::default()
+    };
+    assert_eq!(hp_ufo_read_up(&packet), yes(whole));
+    for (place, read) in [
+        (
+            0,
+            hp_packet {
+                user: *b"user1 ",
+                password: *b"password  ",
+                name: *b"8841      ",
+                next: 29,
+                ..kind(b'L')
+            },
+        ),
+        (
+            29,
+            hp_packet {
+                number: 3,
+                count: 2,
+                next: 38,
+                ..kind(b'T')
+            },
+        ),
+        (
+            38,
+            hp_packet {
+                start: 41,
+                length: 3,
+                next: 44,
+                ..kind(b'U')
+            },
+        ),
+        (
+            44,
+            hp_packet {
+                next: 47,
+                ..kind(b'R')
+            },
+        ),
+        (
+            47,
+            hp_packet {
+                next: 50,
+                ..kind(b'O')
+            },
+        ),
+    ] {
+        assert_eq!(hp_ufo_read_message(&packet, place), yes(read), "{place}");
+    }
+    for place in [49, 50, 51, u64::MAX] {
+        assert_eq!(hp_ufo_read_message(&packet, place), no(4), "{place}");
+    }
+    assert_eq!(hp_ufo_read_up(b""), no(1));
+    assert_eq!(hp_ufo_read_up(&blocks(&[b"R", b"X"])), no(3));
+    assert_eq!(hp_ufo_read_message(b"", 0), no(1));
+    assert_eq!(hp_ufo_read_message(&[0; 1473], 0), no(2));
+}
+
+#[test]
+fn memx_is_read() {
+    for (packet, read) in [
+        (
+            memx(0, 7, 5),
+            hp_packet {
+                session: 7,
+                number: 5,
+                ..kind(0)
+            },
+        ),
+        (
+            memx(1, 7, 0),
+            hp_packet {
+                session: 7,
+                ..kind(1)
+            },
+        ),
+        (
+            memx_data(7, 5, &[b"a", b"bc"]),
+            hp_packet {
+                session: 7,
+                number: 5,
+                count: 2,
+                start: 20,
+                length: 7,
+                ..kind(2)
+            },
+        ),
+    ] {
+        assert_eq!(hp_memx_read(&packet), yes(read), "{packet:?}");
+    }
+    assert_eq!(hp_memx_read(b"\x02"), no(4));
+    assert_eq!(hp_memx_read(b"\x03"), no(3));
+}
+
+#[test]
+fn blocks_are_found() {
+    let bytes = b"\0\x02HI\0\0";
+    let block = |start, length, next| hp_block {
+        refusal: 0,
+        start,
+        length,
+        next,
+    };
+    assert_eq!(hp_next_block(bytes, 0), block(2, 2, 4));
+    assert_eq!(hp_next_block(bytes, 4), block(6, 0, 6));
+    let refused = hp_block {
+        refusal: 4,
+        ..hp_block::default()
+    };
+    for place in [1, 5, 6, 7, u64::MAX] {
+        assert_eq!(hp_next_block(bytes, place), refused, "{place}");
+    }
+    assert_eq!(hp_next_block(b"", 0), refused);
+    let longest = [&[0xff; 2][..], &[0; 65_535]].concat();
+    assert_eq!(hp_next_block(&longest, 0), block(2, 65_535, 65_537));
+}
+
+type Writer = fn(hp_packet, &[u8], &mut [u8]) -> hp_wrote;
+
+/// Types without a body, and how many bytes their packets have.
+type Bodiless<'a> = &'a [(hp_packet, usize)];
+
+#[test]
+fn a_body_where_there_is_none_makes_the_packet_too_long() {
+    let soup = [
+        (kind(b'H'), 2),
+        (kind(b'Z'), 2),
+        (kind(b'R'), 2),
+        (kind(b'O'), 2),
+        (kind(b'J'), 3),
+        (kind(b'A'), 32),
+        (kind(b'L'), 48),
+    ];
+    let down = [(kind(b'A'), 15), (kind(b'J'), 2), (kind(b'E'), 5)];
+    let up = [
+        (kind(b'L'), 29),
+        (kind(b'T'), 9),
+        (kind(b'R'), 3),
+        (kind(b'O'), 3),
+    ];
+    let memx_udp = [(kind(0), 18), (kind(1), 18)];
+    let writers: [(Writer, usize, Bodiless); 4] = [
+        (hp_soup_write, 4098, &soup),
+        (hp_ufo_write_down, 1472, &down),
+        (hp_ufo_write_message, 1472, &up),
+        (hp_memx_write, 1472, &memx_udp),
+    ];
+    for (write, limit, types) in writers {
+        for &(fields, fixed) in types {
+            // linefeeds, so that a Soup reader would have an 8 to give after the 4
+            let body = vec![b'\n'; limit + 1 - fixed];
+            let mut out = [0xee; 5000];
+            assert_eq!(write(fields, &body[..1], &mut out), wrote(4, 0));
+            let most = write(fields, &body[..limit - fixed], &mut out);
+            assert_eq!(most, wrote(4, 0), "{fields:?}");
+            assert_eq!(write(fields, &body, &mut out), wrote(2, 0), "{fields:?}");
+            assert_eq!(out, [0xee; 5000]);
+        }
+    }
+}
+
+#[test]
+fn an_unknown_type_is_3_unless_the_packet_is_too_long() {
+    let writers: [(Writer, u8, usize); 4] = [
+        (hp_soup_write, b'X', 4098 - 2),
+        (hp_ufo_write_down, b'T', 1472 - 1),
+        (hp_ufo_write_message, b'S', 1472 - 3),
+        (hp_memx_write, 3, 1472 - 18),
+    ];
+    for (write, unknown, room) in writers {
+        let body = vec![0; room + 1];
+        let mut out = [0xee; 5000];
+        assert_eq!(write(kind(unknown), b"", &mut out), wrote(3, 0));
+        assert_eq!(write(kind(unknown), &body[..room], &mut out), wrote(3, 0));
+        assert_eq!(write(kind(unknown), &body, &mut out), wrote(2, 0));
+        assert_eq!(out, [0xee; 5000]);
+    }
+}
+
+#[test]
+fn writing_ignores_fields_that_the_type_lacks() {
+    let noise = hp_packet {
+        r#type: 0,
+        reason: b'A',
+        count: 1,
+        user: *b"user1 ",
+        password: *b"password  ",
+        name: *b"8841      ",
+        session: 7,
+        number: 3,
+        start: 99,
+        length: 98,
+        next: 97,
+    };
+    let of = |r#type| hp_packet { r#type, ..noise };
+    let body = b"\0\x01!";
+    let cases: [(Writer, u8, &[u8], &[u8]); 18] = [
+        (hp_soup_write, b'+', b"hi", b"+hi\n"),
+        (hp_soup_write, b'S', b"hi", b"Shi\n"),
+        (hp_soup_write, b'U', b"hi", b"Uhi\n"),
+        (hp_soup_write, b'H', b"", b"H\n"),
+        (hp_soup_write, b'Z', b"", b"Z\n"),
+        (hp_soup_write, b'R', b"", b"R\n"),
+        (hp_soup_write, b'O', b"", b"O\n"),
+        (hp_soup_write, b'J', b"", b"JA\n"),
+        (hp_ufo_write_down, b'A', b"", b"A8841      \0\0\0\x03"),
+        (hp_ufo_write_down, b'J', b"", b"JA"),
+        (hp_ufo_write_down, b'S', body, b"S\0\0\0\x03\0\x01\0\x01!"),
+        (hp_ufo_write_down, b'E', b"", b"E\0\0\0\x03"),
+        (
+            hp_ufo_write_message,
+            b'L',
+            b"",
+            b"\0\x1bLuser1 password  8841      ",
+        ),
+        (hp_ufo_write_message, b'T', b"", b"\0\x07T\0\0\0\x03\0\x01"),
+        (hp_ufo_write_message, b'U', b"hi", b"\0\x03Uhi"),
+        (hp_ufo_write_message, b'R', b"", b"\0\x01R"),
+        (hp_memx_write, 0, b"", &memx(0, 7, 3)),
+        (hp_memx_write, 2, body, &memx_data(7, 3, &[b"!"])),
+    ];
+    for (write, kind, body, packet) in cases {
+        let mut out = [0xee; 100];
+        let length = packet.len();
+        assert_eq!(write(of(kind), body, &mut out), wrote(0, length as u64));
+        assert_eq!(out[..length], *packet);
+        assert_eq!(out[length..], [0xee; 100][length..]);
+        let mut cramped = vec![0xee; length - 1];
+        assert_eq!(write(of(kind), body, &mut cramped), wrote(9, 0));
+        assert_eq!(cramped, [0xee; 100][..length - 1]);
+    }
+    let left = hp_packet {
+        name: *b"      8841",
+        ..noise
+    };
+    let login = hp_packet {
+        r#type: b'L',
+        ..left
+    };
+    let mut out = [0; 48];
+    assert_eq!(hp_soup_write(login, b"", &mut out), wrote(0, 48));
+    assert_eq!(out, *soup_l("user1", "password", "8841", "3"));
+}
+
+#[test]
+fn a_number_that_its_field_cannot_hold_is_7_in_its_turn() {
+    let wide = |r#type, name: &[u8; 10], count| hp_packet {
+        r#type,
+        name: *name,
+        count,
+        number: 1 << 32,
+        ..hp_packet::default()
+    };
+    let name = b"8841      ";
+    let cases: [(Writer, hp_packet, &[u8], u64); 9] = [
+        (hp_ufo_write_down, wide(b'A', name, 0), b"", 7),
+        (hp_ufo_write_down, wide(b'A', b" 8841     ", 0), b"", 5),
+        (hp_ufo_write_down, wide(b'A', b"          ", 0), b"", 6),
+        (hp_ufo_write_down, wide(b'A', name, 0), b"x", 4),
+        (hp_ufo_write_down, wide(b'S', name, 0), b"", 7),
+        (hp_ufo_write_down, wide(b'S', name, 1), b"", 4),
+        (hp_ufo_write_down, wide(b'E', name, 0), b"", 7),
+        (hp_ufo_write_message, wide(b'T', name, 1), b"", 7),
+        (hp_ufo_write_message, wide(b'T', name, 0), b"", 6),
+    ];
+    for (write, fields, body, refusal) in cases {
+        assert_eq!(
+            write(fields, body, &mut []),
+            wrote(refusal, 0),
+            "{fields:?}"
+        );
+    }
+}
+
+const RECORD: hp_record = hp_record {
+    style: 1,
+    ended: 0,
+    name: *b"8841      ",
+    session: 1234,
+    next: 3,
+    top: 5,
+    asked: 0,
+};
+
+const BROADCAST: hp_record = hp_record {
+    style: 2,
+    name: *b"\0not text\n",
+    ..RECORD
+};
+
+#[test]
+fn opening() {
+    let fresh = hp_record {
+        style: 1,
+        name: *b"8841      ",
+        next: 1,
+        ..hp_record::default()
+    };
+    let opened = |refusal, record| hp_opened { refusal, record };
+    assert_eq!(hp_open_ufo(b"8841      "), opened(0, fresh));
+    assert_eq!(hp_open_ufo(b" 8841     "), opened(5, hp_record::default()));
+    assert_eq!(hp_open_ufo(b"          "), opened(6, hp_record::default()));
+    let fresh = hp_record {
+        style: 2,
+        session: u64::MAX,
+        next: 1,
+        ..hp_record::default()
+    };
+    assert_eq!(hp_open_memx(u64::MAX), opened(0, fresh));
+}
+
+#[test]
+fn taking_keeps_what_the_style_does_not_look_at() {
+    let mut out = [0xee; 100];
+    let taken = hp_take(RECORD, &ufo_numbered(2, 3), &mut out);
+    let delivered = common::numbered(3, 2);
+    let after = hp_taken {
+        refusal: 0,
+        bytes: delivered.len() as u64,
+        messages: 2,
+        record: hp_record { next: 5, ..RECORD },
+    };
+    assert_eq!(taken, after);
+    assert_eq!(out[..delivered.len()], delivered);
+    assert_eq!(out[delivered.len()..], [0xee; 100][delivered.len()..]);
+
+    let taken = hp_take(BROADCAST, &memx(1, 1234, 9), &mut []);
+    let after = hp_taken {
+        record: hp_record {
+            top: 9,
+            ended: 1,
+            ..BROADCAST
+        },
+        ..hp_taken::default()
+    };
+    assert_eq!(taken, after);
+}
+
+#[test]
+fn taking_hands_the_record_back_on_a_refusal() {
+    let ended = hp_record { ended: 1, ..RECORD };
+    for (record, datagram, refusal) in [
+        (hp_record { style: 0, ..RECORD }, ufo_e(5), 10),
+        (hp_record { style: 3, ..RECORD }, ufo_e(5), 10),
+        (hp_record { ended: 2, ..RECORD }, vec![], 10),
+        (
+            hp_record {
+                name: *b"          ",
+                ..RECORD
+            },
+            vec![],
+            10,
+        ),
+        (hp_record { next: 7, ..RECORD }, vec![], 10),
+        (hp_record::default(), vec![], 10),
+        (RECORD, vec![], 1),
+        (RECORD, b"JA".to_vec(), 16),
+        (BROADCAST, memx(0, 1, 1), 11),
+        (BROADCAST, ufo_e(5), 3),
+        (ended, ufo_e(6), 12),
+        (ended, ufo_numbered(3, 1), 9),
+    ] {
+        let mut out = [0xee; 8];
+        let taken = hp_take(record, &datagram, &mut out);
+        let refused = hp_taken {
+            refusal,
+            record,
+            ..hp_taken::default()
+        };
+        assert_eq!(taken, refused);
+        assert_eq!(out, [0xee; 8]);
+    }
+}
+
+#[test]
+fn standing() {
+    let lacking = hp_standing {
+        missing: 1,
+        first: 3,
+        last: 5,
+        ..hp_standing::default()
+    };
+    assert_eq!(hp_standing_of(RECORD), lacking);
+    assert_eq!(hp_standing_of(BROADCAST), lacking);
+    let had = hp_record { next: 6, ..RECORD };
+    assert_eq!(hp_standing_of(had), hp_standing::default());
+    let complete = hp_standing {
+        complete: 1,
+        ..hp_standing::default()
+    };
+    assert_eq!(hp_standing_of(hp_record { ended: 1, ..had }), complete);
+    let broken = hp_standing {
+        refusal: 10,
+        ..hp_standing::default()
+    };
+    for record in [
+        hp_record { ended: 255, ..had },
+        hp_record { style: 9, ..had },
+        hp_record { asked: 7, ..had },
+    ] {
+        assert_eq!(hp_standing_of(record), broken);
+    }
+}
+
+const SHEET: hp_sheet = hp_sheet {
+    mean: 100.0,
+    spread: 50.0,
+    timed: 1,
+};
+
+const NEVER: hp_patience = hp_patience {
+    rule: 0,
+    first: f64::NAN,
+    second: f64::NAN,
+};
+
+const FIXED: hp_patience = hp_patience {
+    rule: 1,
+    first: 250.0,
+    second: f64::NAN,
+};
+
+const MEASURED: hp_patience = hp_patience {
+    rule: 2,
+    first: 1.0,
+    second: 60_000.0,
+};
+
+const NO_RULE: hp_patience = hp_patience {
+    rule: 3,
+    ..MEASURED
+};
+
+#[test]
+fn asking() {
+    let answer = |what, record| hp_asked {
+        what,
+        record,
+        ..hp_asked::default()
+    };
+    let asked = hp_record { asked: 3, ..RECORD };
+    let request = hp_asked {
+        first: 3,
+        count: 3,
+        ..answer(2, asked)
+    };
+    assert_eq!(hp_ask(RECORD, SHEET, NEVER, 0.0), request);
+    assert_eq!(hp_ask(asked, SHEET, NEVER, 9e6), answer(1, asked));
+    assert_eq!(hp_ask(asked, SHEET, FIXED, 249.0), answer(1, asked));
+    assert_eq!(hp_ask(asked, SHEET, FIXED, 250.0), request);
+    assert_eq!(hp_ask(asked, SHEET, MEASURED, 299.0), answer(1, asked));
+    assert_eq!(hp_ask(asked, SHEET, MEASURED, 300.0), request);
+    let had = hp_record { next: 6, ..RECORD };
+    assert_eq!(hp_ask(had, SHEET, FIXED, 250.0), answer(0, had));
+    let broadcast = hp_ask(BROADCAST, SHEET, NEVER, 0.0);
+    assert_eq!(broadcast.record.name, BROADCAST.name);
+    assert_eq!((broadcast.what, broadcast.record.asked), (2, 3));
+}
+
+#[test]
+fn asking_refuses_10_before_15() {
+    let broken_record = hp_record { next: 0, ..RECORD };
+    let broken_flag = hp_record { ended: 2, ..RECORD };
+    let broken_sheet = hp_sheet {
+        mean: f64::NAN,
+        ..SHEET
+    };
+    let broken_timed = hp_sheet { timed: 2, ..SHEET };
+    for (record, sheet, patience, elapsed, refusal) in [
+        (broken_record, SHEET, NEVER, 0.0, 10),
+        (broken_record, SHEET, NO_RULE, -1.0, 10),
+        (broken_flag, SHEET, NO_RULE, 0.0, 10),
+        (RECORD, broken_sheet, NEVER, 0.0, 10),
+        (RECORD, broken_sheet, NO_RULE, f64::NAN, 10),
+        (RECORD, broken_timed, NO_RULE, 0.0, 10),
+        (RECORD, SHEET, NO_RULE, 0.0, 15),
+        (RECORD, SHEET, hp_patience { rule: 255, ..FIXED }, 0.0, 15),
+        (
+            RECORD,
+            SHEET,
+            hp_patience {
+                first: 0.0,
+                ..FIXED
+            },
+            0.0,
+            15,
+        ),
+        (RECORD, SHEET, NEVER, f64::NAN, 15),
+        (RECORD, SHEET, NEVER, -0.5, 15),
+    ] {
+        let refused = hp_asked {
+            refusal,
+            record,
+            ..hp_asked::default()
+        };
+        assert_eq!(hp_ask(record, sheet, patience, elapsed), refused);
+    }
+}
+
+#[test]
+fn timing_and_waiting() {
+    let timed = hp_time(SHEET, 60.0);
+    let sheet = hp_sheet {
+        mean: 95.0,
+        spread: 47.5,
+        timed: 1,
+    };
+    assert_eq!(timed, hp_timed { refusal: 0, sheet });
+    let untimed = hp_sheet {
+        mean: f64::NAN,
+        spread: -1.0,
+        timed: 0,
+    };
+    let first = hp_sheet {
+        mean: 8.0,
+        spread: 4.0,
+        timed: 1,
+    };
+    assert_eq!(hp_time(untimed, 8.0).sheet, first);
+
+    let payload = f64::from_bits(0x7ff8_0000_0000_1234);
+    for (sheet, sample, refusal) in [
+        (hp_sheet { timed: 2, ..SHEET }, 8.0, 10),
+        (
+            hp_sheet {
+                mean: payload,
+                ..SHEET
+            },
+            f64::NAN,
+            10,
+        ),
+        (
+            hp_sheet {
+                spread: -1.0,
+                ..SHEET
+            },
+            8.0,
+            10,
+        ),
+        (SHEET, -1.0, 15),
+        (SHEET, f64::NAN, 15),
+        (untimed, 60_001.0, 15),
+    ] {
+        assert_eq!(hp_time(sheet, sample), hp_timed { refusal, sheet });
+        let wait = hp_wait_of(sheet, NO_RULE);
+        let refused = hp_wait {
+            refusal: if refusal == 10 { 10 } else { 15 },
+            ..hp_wait::default()
+        };
+        assert_eq!(wait, refused);
+    }
+
+    let wait = |milliseconds| hp_wait {
+        refusal: 0,
+        waits: 1,
+        milliseconds,
+    };
+    assert_eq!(hp_wait_of(SHEET, NEVER), hp_wait::default());
+    assert_eq!(hp_wait_of(SHEET, FIXED), wait(250.0));
+    assert_eq!(hp_wait_of(SHEET, MEASURED), wait(300.0));
+    assert_eq!(hp_wait_of(untimed, MEASURED), wait(1000.0));
+}
+
+#[test]
+fn sheets_rules_and_waits_are_compared_bit_for_bit() {
+    let nought = hp_sheet { mean: 0.0, ..SHEET };
+    let negative = hp_sheet {
+        mean: -0.0,
+        ..SHEET
+    };
+    assert_ne!(nought, negative);
+    let unlike = hp_sheet {
+        spread: f64::NAN,
+        ..SHEET
+    };
+    assert_eq!(unlike, unlike);
+    assert_eq!(NEVER, NEVER);
+    assert_ne!(
+        NEVER,
+        hp_patience {
+            second: 1.0,
+            ..NEVER
+        }
+    );
+    let wait = hp_wait {
+        milliseconds: -0.0,
+        ..hp_wait::default()
+    };
+    assert_ne!(wait, hp_wait::default());
+}
+
+#[test]
+fn silence() {
+    let answer = |refusal, yes| hp_yes { refusal, yes };
+    assert_eq!(hp_line_lost(10_000, 0), answer(0, 0));
+    assert_eq!(hp_line_lost(10_001, 0), answer(0, 1));
+    assert_eq!(hp_line_lost(0, 1), answer(14, 0));
+    assert_eq!(hp_heartbeat_due(1000, 0), answer(0, 0));
+    assert_eq!(hp_heartbeat_due(1001, 0), answer(0, 1));
+    assert_eq!(hp_heartbeat_due(0, 1), answer(14, 0));
+}
+
+#[test]
+fn lending() {
+    let mut bytes = [0xee; 16];
+    let empty = hp_log::default();
+    let added = hp_log_add(empty, &mut bytes, b"HI");
+    let one = hp_log {
+        count: 1,
+        used: 4,
+        ended: 0,
+    };
+    assert_eq!(
+        added,
+        hp_logged {
+            refusal: 0,
+            log: one
+        }
+    );
+    assert_eq!(bytes[..5], *b"\0\x02HI\xee");
+
+    let ended = hp_log { ended: 1, ..one };
+    let declared = hp_log_declare_end(one, &bytes);
+    assert_eq!(
+        declared,
+        hp_logged {
+            refusal: 0,
+            log: ended
+        }
+    );
+
+    let mut out = [0xee; 1472];
+    assert_eq!(hp_log_answer(one, &bytes, 1, 9, &mut out), wrote(0, 11));
+    assert_eq!(out[..11], ufo_s(1, &[b"HI"]));
+    assert_eq!(out[11..], [0xee; 1472][11..]);
+    assert_eq!(hp_log_answer(one, &bytes, 2, 9, &mut out), wrote(0, 7));
+    assert_eq!(out[..7], ufo_s(2, &[]));
+    assert_eq!(hp_log_answer(ended, &bytes, 2, 9, &mut out), wrote(0, 5));
+    assert_eq!(out[..5], ufo_e(1));
+    assert_eq!(hp_log_heartbeat(ended, &bytes, &mut out), wrote(0, 7));
+    assert_eq!(out[..7], ufo_s(2, &[]));
+    assert_eq!(hp_log_end_packet(ended, &bytes, &mut out), wrote(0, 5));
+    assert_eq!(out[..5], ufo_e(1));
+
+    let answer = |log, first, count, out: &mut [u8]| hp_log_answer(log, &bytes, first, count, out);
+    assert_eq!(answer(one, 0, 1, &mut []), wrote(6, 0));
+    assert_eq!(answer(one, 1, 0, &mut []), wrote(6, 0));
+    assert_eq!(answer(one, 1, 1, &mut [0; 1471]), wrote(9, 0));
+    assert_eq!(hp_log_heartbeat(one, &bytes, &mut [0; 6]), wrote(9, 0));
+    assert_eq!(hp_log_end_packet(one, &bytes, &mut []), wrote(12, 0));
+    assert_eq!(hp_log_end_packet(ended, &bytes, &mut [0; 4]), wrote(9, 0));
+}
+
+#[test]
+fn a_log_is_handed_back_on_a_refusal() {
+    let one = hp_log {
+        count: 1,
+        used: 4,
+        ended: 0,
+    };
+    let lent = *b"\0\x02HI....";
+    for (log, message, refusal) in [
+        (hp_log { ended: 2, ..one }, &b""[..], 10),
+        (hp_log { used: 5, ..one }, b"", 10),
+        (
+            hp_log {
+                used: u64::MAX,
+                ..one
+            },
+            b"",
+            10,
+        ),
+        (
+            hp_log {
+                count: u64::MAX,
+                ..one
+            },
+            b"",
+            10,
+        ),
+        (hp_log { ended: 1, ..one }, b"", 13),
+        (one, &[0; 1464], 2),
+        (one, b"ABC", 9),
+    ] {
+        let mut bytes = lent;
+        let refused = hp_logged { refusal, log };
+        assert_eq!(hp_log_add(log, &mut bytes, message), refused);
+        assert_eq!(bytes, lent);
+        if matches!(refusal, 10 | 13) {
+            assert_eq!(hp_log_declare_end(log, &lent), refused);
+        }
+        if refusal == 10 {
+            let mut out = [0xee; 1472];
+            assert_eq!(hp_log_answer(log, &lent, 0, 0, &mut out), wrote(10, 0));
+            assert_eq!(hp_log_heartbeat(log, &lent, &mut out), wrote(10, 0));
+            assert_eq!(hp_log_end_packet(log, &lent, &mut out), wrote(10, 0));
+            assert_eq!(out, [0xee; 1472]);
+        }
+    }
+}
