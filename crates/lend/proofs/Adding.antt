@@ -19,7 +19,8 @@ use Rattle.blocks.proofs.Cutting.{cut-frames}
 use Rattle.lend.specs.Log.{small, blocksIn, messagesIn, hangs, Kept, extended, growing, fitting, adding, toTheEnd, addingMany, declaring}
 use Rattle.lend.specs.declared.log.Log.{Log}
 use Rattle.lend.proofs.Joining.{cut-joined}
-use Rattle.lend.proofs.Hanging.{hanging, hangs-so, and-left, and-right}
+use Rattle.wire.proofs.Tests.{and-left, and-right}
+use Rattle.lend.proofs.Hanging.{hanging, hangs-so}
 
 pub small-short : (ms : List (List ℕ)) → small ms ≡ true → Each Short ms
 unfolding small

@@ -20,7 +20,8 @@ use Rattle.lend.specs.Log.{small, messagesIn, hangs}
 use Rattle.lend.specs.Answer.{greatest, from, goes, heartbeatOf, endOf, answerTo}
 use Rattle.lend.specs.declared.log.Log.{Log}
 use Rattle.lend.proofs.Joining.{each-take, each-drop}
-use Rattle.lend.proofs.Hanging.{hanging, and-left, and-right}
+use Rattle.wire.proofs.Tests.{and-left, and-right}
+use Rattle.lend.proofs.Hanging.{hanging}
 use Rattle.lend.proofs.Entering.{length-one}
 use Rattle.lend.proofs.Greatest.{greatest-bound, greatest-passes, greatest-above, greatest-same, leb-same}
 use Rattle.lend.proofs.Measuring.{holds}

@@ -7,18 +7,10 @@ use mathlib.Core.Bool.{Bool, true, false, not, _&&_, and-false, true≢false}
 use borrow.Author.Tests.{le-leb, lt-leb, leb-true, not-true, not-false}
 use lib.ListN.{length}
 use lib.Dec.{leb}
+use Rattle.wire.proofs.Tests.{and-left, and-right}
 use Rattle.blocks.specs.Blocks.{Cut, torn, whole, messagesOf}
 use Rattle.lend.specs.Log.{small, sound, blocksIn, messagesIn, hangs}
 use Rattle.lend.specs.declared.log.Log.{Log}
-
--- both tests hold
-pub and-left : (a b : Bool) → a && b ≡ true → a ≡ true
-and-left true b e = refl
-and-left false b e = e
-
-pub and-right : (a b : Bool) → a && b ≡ true → b ≡ true
-and-right true b e = e
-and-right false b e = absurd (true≢false (sym e))
 
 sound-whole : (q : Cut) → sound q ≡ true → (q ≡ whole (messagesOf q)) × (small (messagesOf q) ≡ true)
 sound-whole torn e = absurd (true≢false (sym e))

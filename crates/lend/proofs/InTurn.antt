@@ -15,7 +15,7 @@ use Rattle.blocks.specs.Blocks.{frames, messagesOf}
 use Rattle.blocks.proofs.Frames.{length-frames, frames-append}
 use Rattle.lend.specs.Log.{small, Kept, extended, adding, toTheEnd, addingMany}
 use Rattle.lend.specs.declared.log.Log.{Log}
-use Rattle.lend.proofs.Hanging.{and-left, and-right}
+use Rattle.wire.proofs.Tests.{and-left, and-right}
 use Rattle.lend.proofs.Adding.{small-short, up-to, after, Fits, grown, added, added-many}
 use Rattle.lend.proofs.Entering.{length-one, takes-one, takes-many}
 use Rattle.lend.proofs.Many.{all-frames}

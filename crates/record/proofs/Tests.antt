@@ -6,6 +6,7 @@ use mathlib.Core.Bool.{Bool, true, false, not, _&&_, _||_, false≢true, true≢
 use native.Mathlib.Omega.{arith}
 use borrow.Author.Tests.{leb-true, leb-false, lt-ltb, le-ltb, le-leb, lt-leb}
 use lib.Dec.{leb, ltb}
+use Rattle.wire.proofs.Tests.{and-left, and-right}
 
 -- not at most is more than
 pub more-than : (m n : ℕ) → ltb n m ≡ not (leb m n)
@@ -22,9 +23,7 @@ one-less m n h = by (leb m (n + 1)) refl where
   by false e = let l = leb-false m (n + 1) e in rw e (lt-leb (m - 1) n (omega arith))
 
 pub both : (a b : Bool) → a && b ≡ true → (a ≡ true) × (b ≡ true)
-both true true e = (refl, refl)
-both true false e = (refl, e)
-both false b e = absurd (false≢true e)
+both a b e = (and-left a b e, and-right a b e)
 
 pub and-false : (a : Bool) → a && false ≡ false
 and-false true = refl

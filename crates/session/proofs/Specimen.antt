@@ -25,7 +25,7 @@ use Rattle.clock.specs.declared.sheet.Sheet.{Sheet}
 use Rattle.clock.specs.declared.patience.Patience.the-variants.{Never}
 use Rattle.lend.specs.Log as log
 use Rattle.lend.specs.Answer.{greatest, answerTo, answerReply, endPacketReply}
-use Rattle.lend.proofs.Hanging.{and-left, and-right}
+use Rattle.wire.proofs.Tests.{and-left, and-right}
 use Rattle.record.specs.Record.{hangs, fresh}
 use Rattle.record.specs.Hearing.{hear}
 use Rattle.record.specs.Taking.{reporting, taking}

@@ -15,14 +15,6 @@ pub by-test : {A : Type 0} (b : Bool) → (b ≡ true → A) → (b ≡ false �
 by-test true y n = y refl
 by-test false y n = n refl
 
-pub and-left : (p q : Bool) → p && q ≡ true → p ≡ true
-and-left true q e = refl
-and-left false q e = e
-
-pub and-right : (p q : Bool) → p && q ≡ true → q ≡ true
-and-right true q e = e
-and-right false q e = cc
-
 pub either : (p q : Bool) → p || q ≡ true → (p ≡ true) ⊎ (q ≡ true)
 either true q e = inl refl
 either false q e = inr e

@@ -11,7 +11,7 @@ use lib.Dec.{leb}
 use lib.ListN.{length, getD, drop, length-drop, drop-of-length-le}
 use lib.Seq.{drop-cons}
 use borrow.Author.Tests.{eq-eqb, ne-eqb, leb-true}
-use Rattle.soup.proofs.Choices.{and-left, and-right}
+use Rattle.wire.proofs.Tests.{and-left, and-right}
 use Rattle.soup.specs.Decimal.{digit, digits, trimmed, spelt}
 
 -- the character at place i, which is there

@@ -13,7 +13,8 @@ use borrow.Author.Tests.{ne-eqb, eqb-true, eqb-false, not-true}
 use Rattle.wire.specs.Text.{letterOrDigit, blank, text, textThenSpaces, spacesThenText}
 use Rattle.soup.specs.Decimal.{character, places, written}
 use Rattle.soup.specs.Read.{unbroken}
-use Rattle.soup.proofs.Choices.{by-test, and-left, and-right}
+use Rattle.wire.proofs.Tests.{and-left, and-right}
+use Rattle.soup.proofs.Choices.{by-test}
 
 -- no byte is a linefeed
 abbrev pub No-linefeed : List ℕ → Type 0

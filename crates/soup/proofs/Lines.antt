@@ -10,7 +10,7 @@ use lib.ListN.{length, getD, take, drop, length-append, length-drop}
 use lib.Seq.{take-at, drop-at, getD-at, take-all, take-suc, take-add, drop-drop, drop-cons, getD-drop, length-take-le}
 use Rattle.soup.specs.Packet.{line}
 use Rattle.soup.specs.Read.{last, front, field, payload, unbroken}
-use Rattle.soup.proofs.Choices.{and-right}
+use Rattle.wire.proofs.Tests.{and-right}
 
 -- ---- the parts of a line
 

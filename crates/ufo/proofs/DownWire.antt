@@ -11,6 +11,7 @@ use Rattle.wire.specs.Fields.{be, bytesOf, Bytes}
 use Rattle.wire.specs.Checks.{Verdict, refused, Check, checked}
 use Rattle.wire.specs.Text.{letterOrDigit, blank, textThenSpaces}
 use Rattle.wire.proofs.Width.{be-bytesOf}
+use Rattle.wire.proofs.Tests.{and-left, and-right}
 
 pub be-last : (k n : ℕ) → n < 2 ^ (8 * k) → be k (bytesOf k n) ≡ n
 be-last k n h = rw append-nil at (be-bytesOf k n [] h)
@@ -27,10 +28,6 @@ pub bytes-cons : (x : ℕ) (s : List ℕ) → x < 256 → Bytes s → Bytes (x �
 bytes-cons x s h b zero = h
 bytes-cons x s h b (suc i) = b i
 
-both : (a b : Bool) → a && b ≡ true → (a ≡ true) × (b ≡ true)
-both true b e = (refl, e)
-both false b e = absurd (true≢false (sym e))
-
 letter-byte : (b : ℕ) → letterOrDigit b ≡ true → b < 256
 unfolding letterOrDigit
 letter-byte b e = by (leb b 255) refl where
@@ -45,9 +42,8 @@ blank-bytes : (s : List ℕ) → blank s ≡ true → Bytes s
 unfolding blank
 blank-bytes [] e = λ i. omega arith
 blank-bytes (b ∷ s) e =
-    let q = both (eqb b 32) (blank s) e in
-    let z = eqb-true b 32 (q .0) in
-    bytes-cons b s (omega arith) (blank-bytes s (q .1))
+    let z = eqb-true b 32 (and-left (eqb b 32) (blank s) e) in
+    bytes-cons b s (omega arith) (blank-bytes s (and-right (eqb b 32) (blank s) e))
 
 pub text-bytes : (s : List ℕ) → textThenSpaces s ≡ true → Bytes s
 unfolding textThenSpaces

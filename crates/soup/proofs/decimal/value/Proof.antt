@@ -3,7 +3,7 @@ use mathlib.Core.Bool.{not}
 use native.Mathlib.Omega.{arith}
 use borrow.Author.Needs.{needs}
 use Rattle.soup.specs.Decimal.{leadingZero, digits, trimmed, wellFormed, valueOf}
-use Rattle.soup.proofs.Choices.{and-right}
+use Rattle.wire.proofs.Tests.{and-right}
 use Rattle.soup.proofs.decimal.value.Statement.{statement}
 use Rattle.soup.proofs.decimal.value.Tie as tie
 

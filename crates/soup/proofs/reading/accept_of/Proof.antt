@@ -11,7 +11,7 @@ use Rattle.wire.specs.Text.{spacesThenText, blank}
 use Rattle.soup.specs.Decimal.{wellFormed, valueOf}
 use Rattle.soup.specs.Packet.{accept}
 use Rattle.soup.specs.Read.{acceptOf}
-use Rattle.soup.proofs.Choices.{and-right}
+use Rattle.wire.proofs.Tests.{and-right}
 use Rattle.soup.proofs.Together.{acceptValue, accept-together, over-bound, within-bound, bound-positive}
 use Rattle.soup.proofs.reading.accept_of.Statement.{statement}
 use Rattle.soup.proofs.reading.accept_of.Tie as tie

@@ -7,7 +7,7 @@ use borrow.Author.Needs.{needs}
 use borrow.Author.Tests.{not-true, not-false}
 use Rattle.wire.specs.Text.{textThenSpaces, spacesThenText}
 use Rattle.soup.specs.Decimal.{wellFormed, valueOf}
-use Rattle.soup.proofs.Choices.{and-right}
+use Rattle.wire.proofs.Tests.{and-right}
 use Rattle.soup.proofs.Together.{login-together, over-bound, within-bound}
 use Rattle.soup.proofs.reading.login_of.Statement.{statement}
 use Rattle.soup.proofs.reading.login_of.Tie as tie
