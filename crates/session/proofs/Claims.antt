@@ -25,6 +25,7 @@ use Rattle.session.proofs.Standing as standings
 use Rattle.session.proofs.Ending as ending
 use Rattle.session.proofs.Fetching as fetching
 use Rattle.session.proofs.Serving as serving
+use Rattle.session.proofs.Filling as filling
 use Rattle.session.proofs.Contracts as contracts
 use Rattle.session.proofs.Specimen as specimen
 
@@ -127,6 +128,15 @@ pub filled : {s t : State} {n : ℕ}
     → k ≤ last
     → Delivered t k
 filled {s} {t} {n} r first last e x = fetching.filled s t (inv r) n first last e x
+
+-- And it can be fetched: where the line carries each request and its answer, there are exchanges, no more than that, after
+-- which the whole of it has been delivered.
+pub fillable : {s : State}
+    → Reached s
+    → (first last : ℕ)
+    → standing (s .kept) ≡ taken (missing first last)
+    → (n : ℕ) × (t : State) × Exchanges s n t × (n ≤ last + 1 - first) × ((k : ℕ) → first ≤ k → k ≤ last → Delivered t k)
+fillable {s} r = filling.fillable s (inv r)
 
 -- 6. And it happens, worked out byte by byte: of three messages the third comes first, the first comes twice and the second is
 -- lost; the end is heard with two still missing; one exchange fetches both.

@@ -12,6 +12,7 @@ pub mod Standing
 pub mod Fetching
 pub mod Ending
 pub mod Serving
+pub mod Filling
 pub mod Contracts
 pub mod Specimen
 pub mod Claims
