@@ -3,22 +3,34 @@
 use Prim.Native.Nat.{ℕ, zero, suc, _≤_}
 use mathlib.Core.List.{List, [], _∷_}
 use mathlib.Core.Path.{_≡_, refl, ap, sym}
-use mathlib.Core.Bool.{true, false, true≢false}
+use mathlib.Core.Bool.{Bool, true, false, true≢false}
 use native.Mathlib.Omega.{arith}
-use borrow.Author.Tests.{le-leb}
+use borrow.Author.Tests.{le-leb, leb-true}
 use lib.ListN.{length, drop}
-use Rattle.blocks.specs.Blocks.{frames, rest, Cut, torn, whole, cut, isWhole, messagesOf, fills}
+use lib.Dec.{leb}
+use Rattle.wire.proofs.Tests.{both}
+use Rattle.blocks.specs.Blocks.{frames, rest, Cut, torn, whole, cut, isWhole, messagesOf, countOf, fills}
+use Rattle.blocks.specs.declared.Count.the-variants as count
 use Rattle.blocks.proofs.Frames.{length-frames}
 use Rattle.blocks.proofs.Cutting.{not-torn, stepped}
 
--- from a place inside, blocks fill the rest exactly if cutting it does
-pub fills-inside : (s : List ℕ) (p n : ℕ) → p ≤ length s → fills s p n ≡ isWhole (cut n (drop p s))
-fills-inside s p n h = rw (le-leb p (length s) h)
-
--- what is whole is its messages
+-- what is whole is its messages, and what has a count is whole
 pub whole-is : (q : Cut) → isWhole q ≡ true → q ≡ whole (messagesOf q)
 whole-is torn h = absurd (true≢false (sym h))
 whole-is (whole ms) h = refl
+
+pub whole-count : (q : Cut) (n : ℕ) → countOf q ≡ count.Blocks n → isWhole q ≡ true
+whole-count torn n e = cc
+whole-count (whole ms) n e = refl
+
+-- from a place inside, blocks fill the rest exactly if cutting it does: what the code's answer r says
+pub fills-says : (s : List ℕ) (p n : ℕ) (r : Bool) → p ≤ length s → r ≡ fills s p n → isWhole (cut n (drop p s)) ≡ r
+fills-says s p n r h e = sym (rw (le-leb p (length s) h) at e)
+
+pub fills-cut : (s : List ℕ) (p n : ℕ) → fills s p n ≡ true → (p ≤ length s) × (cut n (drop p s) ≡ whole (messagesOf (cut n (drop p s))))
+fills-cut s p n e =
+    let b = both (leb p (length s)) (isWhole (cut n (drop p s))) e in
+    (leb-true p (length s) (b .0), whole-is (cut n (drop p s)) (b .1))
 
 -- cutting into n blocks gives n messages
 pub length-cut : (n : ℕ) (s : List ℕ) (ms : List (List ℕ)) → cut n s ≡ whole ms → length ms ≡ n

@@ -1,24 +1,23 @@
 -- Cutting what was framed gives the messages, and framing what was cut gives the bytes.
 -- Assumes nothing.
-use Prim.Native.Nat.{ℕ, zero, suc, _+_, _≤_, _<_, _^_}
-use mathlib.Core.List.{List, [], _∷_, _++_}
+use Prim.Native.Nat.{ℕ, zero, suc, _+_, _<_, _^_}
+use mathlib.Core.List.{List, [], _∷_}
 use mathlib.Core.Path.{_≡_, refl, ap, sym, _∙_}
-use mathlib.Core.Bool.{Bool, true, false, not}
+use mathlib.Core.Bool.{Bool, true, false, true≢false}
+use native.Mathlib.Nat.{not-suc-le-zero, pos-of-ne-zero}
 use native.Mathlib.Omega.{arith}
 use borrow.Author.Tests.{ne-eqb, eqb-true, eqb-false}
-use lib.ListN.{length, drop}
+use lib.ListN.{length}
 use lib.Dec.{eqb}
-use Rattle.wire.specs.Checks.{_is_}
 use Rattle.wire.specs.Fields.{Bytes}
+use Rattle.wire.proofs.Tests.{by-test, impossible}
 use Rattle.wire.proofs.Width.{bytes-drop}
-use Rattle.blocks.specs.Blocks.{frame, frames, stated, there, first, rest, Cut, torn, whole, before, cut, cutFull, upstream, messagesOf, Each, Short, Full}
-use Rattle.blocks.proofs.Frames.{length-frames, front-stated, front-there, front-first, front-rest, length-first, framed-again, bytes-first}
+use Rattle.blocks.specs.Blocks.{frames, stated, there, first, rest, Cut, torn, whole, cut, cutFull, upstream, isWhole, messagesOf, Each, Short, Full}
+use Rattle.blocks.proofs.Frames.{length-frames, short-frames, front-stated, front-there, front-first, front-rest, length-first, framed-again, bytes-first}
 
 -- what is torn is not whole
 pub not-torn : {C : Type 0} (q : Cut) (ms : List (List ℕ)) → q ≡ torn → q ≡ whole ms → C
-not-torn q ms p e = let z : _≡_ {A = ℕ} 0 1 = cc in absurd (differ z) where
-  differ : _≡_ {A = ℕ} 0 1 → ⊥
-  differ z = omega arith
+not-torn q ms p e = impossible cc
 
 pub cut-frames : (ms : List (List ℕ)) → Each Short ms → cut (length ms) (frames ms) ≡ whole ms
 unfolding cut frames
@@ -58,9 +57,7 @@ frames-cut (suc n) s ms b e =
 -- the same for blocks that are not empty
 pub full-frames : (n : ℕ) (ms : List (List ℕ)) → length (frames ms) < n → Each Short ms → Each Full ms → cutFull n (frames ms) ≡ whole ms
 unfolding cutFull frames
-full-frames zero ms l h f = absurd (none (length (frames ms)) l) where
-  none : (k : ℕ) → k < 0 → ⊥
-  none k l = omega arith
+full-frames zero ms l h f = absurd (not-suc-le-zero l)
 full-frames (suc n) [] l h f = refl
 full-frames (suc n) (m ∷ ms) l h f =
     let t = frames ms in
@@ -69,9 +66,7 @@ full-frames (suc n) (m ∷ ms) l h f =
     rw (ne-eqb (length (frames (m ∷ ms))) 0 some, front-there m t (h .0), front-first m t (h .0), front-rest m t (h .0), front-stated m t (h .0), ne-eqb (length m) 0 (λ e. omega arith), full-frames n ms (omega arith) (h .1) (f .1))
 
 pub upstream-frames : (ms : List (List ℕ)) → 0 < length ms → Each Short ms → Each Full ms → upstream (frames ms) ≡ whole ms
-upstream-frames [] l h f = absurd (none l) where
-  none : 0 < 0 → ⊥
-  none l = omega arith
+upstream-frames [] l h f = absurd (not-suc-le-zero l)
 upstream-frames (m ∷ ms) l h f =
     let k = length-frames m ms in
     let s = frames (m ∷ ms) in
@@ -99,9 +94,7 @@ module _ (n : ℕ) (s : List ℕ) (ms : List (List ℕ)) where
 
 no-bytes : (s : List ℕ) → length s ≡ 0 → [] ≡ s
 no-bytes [] h = refl
-no-bytes (x ∷ s) h = absurd (some (length s) h) where
-  some : (k : ℕ) → suc k ≡ 0 → ⊥
-  some k h = omega arith
+no-bytes (x ∷ s) h = absurd (omega arith)
 
 pub frames-full : (n : ℕ) (s : List ℕ) (ms : List (List ℕ)) → Bytes s → cutFull n s ≡ whole ms → (frames ms ≡ s) × Each Full ms × Each Bytes ms
 unfolding cutFull frames
@@ -112,20 +105,31 @@ frames-full (suc n) s ms b e = by (turned n s ms e) (frames-full n (rest s)) whe
   by (more t z os are f) ih =
       let r = ih os (bytes-drop (2 + stated s) s b) f in
       let l = length-first s t in
-      let some : 0 < length (first s) = rw l (positive (stated s) z) in
-      rw are (rw (r .0) (framed-again s t b), (some, r .1), (bytes-first s b, r .2)) where
-        positive : (k : ℕ) → (k ≡ 0 → ⊥) → 0 < k
-        positive k h = omega arith
+      let some : 0 < length (first s) = rw l (pos-of-ne-zero z) in
+      rw are (rw (r .0) (framed-again s t b), (some, r .1), (bytes-first s b, r .2))
 
 pub frames-upstream : (s : List ℕ) (ms : List (List ℕ)) → Bytes s → upstream s ≡ whole ms → (frames ms ≡ s) × (0 < length ms) × Each Full ms × Each Bytes ms
 unfolding frames
-frames-upstream s ms b e = by (eqb (length s) 0) refl where
-  some : (l : List (List ℕ)) → frames l ≡ s → (length s ≡ 0 → ⊥) → 0 < length l
-  some [] f h = absurd (h (sym (ap length f)))
-  some (m ∷ l) f h = omega arith
+frames-upstream s ms b e =
+    by-test (eqb (length s) 0)
+    (λ z. not-torn (upstream s) ms (rw z refl) e)
+    (λ z.
+    let r = frames-full (suc (length s)) s ms b (rw z at e) in
+    (r .0, some ms (r .0) (eqb-false (length s) 0 z), r .1, r .2)) where
+      some : (l : List (List ℕ)) → frames l ≡ s → (length s ≡ 0 → ⊥) → 0 < length l
+      some [] f h = absurd (h (sym (ap length f)))
+      some (m ∷ l) f h = omega arith
 
-  by : (z : Bool) → eqb (length s) 0 ≡ z → (frames ms ≡ s) × (0 < length ms) × Each Full ms × Each Bytes ms
-  by true z = not-torn (upstream s) ms (rw z refl) e
-  by false z =
-      let r = frames-full (suc (length s)) s ms b (rw z at e) in
-      (r .0, some ms (r .0) (eqb-false (length s) 0 z), r .1, r .2)
+-- an upstream packet whose blocks are whole, and its messages' bytes
+pub record Framed (s : List ℕ) (ms : List (List ℕ)) : Type 0 where
+  pub bytes : frames ms ≡ s
+  pub short : Each Short ms
+  pub full : Each Full ms
+
+pub framed : (s : List ℕ) → Bytes s → isWhole (upstream s) ≡ true → length s < 2 ^ 16 → Framed s (messagesOf (upstream s))
+framed s b w l = by (upstream s) refl w where
+  by : (q : Cut) → upstream s ≡ q → isWhole q ≡ true → Framed s (messagesOf q)
+  by torn e w = absurd (true≢false (sym w))
+  by (whole ms) e w =
+      let f = frames-upstream s ms b e in
+      record { bytes = f .0; short = short-frames ms (rw (f .0) l); full = f .2 }

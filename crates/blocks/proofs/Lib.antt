@@ -1,6 +1,9 @@
 pub mod Steps
+pub mod Found
 pub mod Frames
+pub mod Places
 pub mod Cutting
+pub mod Joining
 pub mod Skipping
 pub mod Counting
 mod Settled

@@ -1,33 +1,25 @@
 -- One block further: what the block at a place says of the bytes from there on.
 -- Assumes nothing.
-use Prim.Native.Nat.{ℕ, zero, suc, _+_, _-_, _≤_, _<_}
+use Prim.Native.Nat.{ℕ, zero, suc, _+_, _≤_, _<_}
 use mathlib.Core.List.{List, [], _∷_}
-use mathlib.Core.Path.{_≡_, refl, ap, sym, _∙_}
-use mathlib.Core.Bool.{Bool, true, false, not, _&&_}
-use native.Mathlib.Nat.{add-assoc, add-zero, zero-add}
+use mathlib.Core.Path.{_≡_, refl, ap, sym}
+use mathlib.Core.Bool.{Bool, true, false, _&&_, and-false}
+use native.Mathlib.Nat.{add-assoc, add-zero, zero-add, not-suc-le-zero, pos-of-ne-zero}
 use native.Mathlib.Omega.{arith}
 use borrow.Author.Tests.{le-leb, lt-leb, leb-true, leb-false, eq-eqb, ne-eqb, eqb-false}
-use lib.ListN.{length, drop, length-drop, drop-of-length-le}
+use lib.ListN.{length, drop, length-drop}
 use lib.Seq.{drop-drop}
 use lib.Dec.{leb, eqb}
-use Rattle.wire.specs.Checks.{Verdict, refused, taken}
+use Rattle.wire.specs.Checks.{refused, taken}
+use Rattle.wire.proofs.Tests.{by-test, impossible}
 use Rattle.blocks.specs.Blocks.{stated, there, first, rest, Cut, torn, whole, before, cut, cutFull, upstream, isWhole, countOf, endAt, blockAt, fills, placeAfter}
 use Rattle.blocks.specs.declared.Count.{Count}
 use Rattle.blocks.specs.declared.Count.the-variants as count
 use Rattle.blocks.specs.declared.Block.the-variants as block
 
-zero-is-not-one : {C : Type 0} → _≡_ {A = ℕ} 0 1 → C
-zero-is-not-one z = absurd (differ z) where
-  differ : _≡_ {A = ℕ} 0 1 → ⊥
-  differ z = omega arith
-
 whole-before : (m : List ℕ) (q : Cut) → isWhole (before m q) ≡ isWhole q
 whole-before m torn = refl
 whole-before m (whole ms) = refl
-
-and-false : (b : Bool) → b && false ≡ false
-and-false true = refl
-and-false false = refl
 
 -- how many blocks, after k that were counted before
 abbrev pub tally : ℕ → Cut → Count
@@ -36,29 +28,25 @@ tally k (whole ms) = count.Blocks (k + length ms)
 
 tally-before : (k : ℕ) (m : List ℕ) (q : Cut) → tally k (before m q) ≡ tally (k + 1) q
 tally-before k m torn = refl
-tally-before k m (whole ms) = ap count.Blocks (more k (length ms)) where
-  more : (a b : ℕ) → a + suc b ≡ a + 1 + b
-  more a b = omega arith
+tally-before k m (whole ms) = ap count.Blocks (omega arith)
 
 -- more turns than bytes are as good as any number of them
 enough : (n m : ℕ) (s : List ℕ) → length s < n → length s < m → cutFull n s ≡ cutFull m s
 unfolding cutFull
-enough zero m s h k = absurd (none h) where
-  none : length s < 0 → ⊥
-  none h = omega arith
-enough (suc n) zero s h k = absurd (none k) where
-  none : length s < 0 → ⊥
-  none h = omega arith
-enough (suc n) (suc m) s h k = by (eqb (length s) 0) refl (enough n m (rest s)) where
-  by : (b : Bool) → eqb (length s) 0 ≡ b → (length (rest s) < n → length (rest s) < m → cutFull n (rest s) ≡ cutFull m (rest s)) → cutFull (suc n) s ≡ cutFull (suc m) s
-  by true e more = rw e
-  by false e more =
-      let some : 0 < length s = nonzero (length s) (eqb-false (length s) 0 e) in
-      let less : length (rest s) < n = rw length-drop (omega arith) in
-      let fewer : length (rest s) < m = rw length-drop (omega arith) in
-      rw (more less fewer) where
-        nonzero : (n : ℕ) → (n ≡ 0 → ⊥) → 0 < n
-        nonzero n h = omega arith
+enough zero m s h k = absurd (not-suc-le-zero h)
+enough (suc n) zero s h k = absurd (not-suc-le-zero k)
+enough (suc n) (suc m) s h k =
+    by-test (eqb (length s) 0)
+    (λ e. rw e)
+    (λ e.
+    let some = pos-of-ne-zero (eqb-false (length s) 0 e) in
+    let less : length (rest s) < n = rw length-drop (omega arith) in
+    let fewer : length (rest s) < m = rw length-drop (omega arith) in
+    rw (enough n m (rest s) less fewer))
+
+-- what a block tells that was found at p: its length l, and the place t after it
+abbrev pub Stands : List ℕ → ℕ → ℕ → ℕ → Type 0
+Stands s p l t = (t ≡ endAt s p) × (l ≡ stated (drop p s)) × (endAt s p ≤ length s)
 
 module _ (s : List ℕ) (p : ℕ) where
   block-in : endAt s p ≤ length s → blockAt s p ≡ block.At (p + 2) (stated (drop p s)) (endAt s p)
@@ -71,23 +59,23 @@ module _ (s : List ℕ) (p : ℕ) where
   block-fits l n e f h = rw (e, f) (block-in (rw f at h))
 
   -- a block was found: it ends inside, and there the next one begins
-  pub found : (f l t : ℕ) → blockAt s p ≡ block.At f l t → (t ≡ endAt s p) × (l ≡ stated (drop p s)) × (endAt s p ≤ length s)
-  found f l t e = by (leb (endAt s p) (length s)) refl where
-    by : (b : Bool) → leb (endAt s p) (length s) ≡ b → (t ≡ endAt s p) × (l ≡ stated (drop p s)) × (endAt s p ≤ length s)
-    by true q = let i = block-in (leb-true _ _ q) in ((cc (i, e)), (cc (i, e)), leb-true _ _ q)
-    by false q = let z : _≡_ {A = ℕ} 0 1 = cc (block-over (leb-false _ _ q), e) in zero-is-not-one z
+  pub found : (f l t : ℕ) → blockAt s p ≡ block.At f l t → Stands s p l t
+  found f l t e =
+      by-test (leb (endAt s p) (length s))
+      (λ q. let i = block-in (leb-true _ _ q) in ((cc (i, e)), (cc (i, e)), leb-true _ _ q))
+      (λ q. impossible (cc (block-over (leb-false _ _ q), e)))
 
   -- none was found: it would end past the end
   pub missed : (n : ℕ) → blockAt s p ≡ block.Refused n → (n ≡ 4) × (length s < endAt s p)
-  missed n e = by (leb (endAt s p) (length s)) refl where
-    by : (b : Bool) → leb (endAt s p) (length s) ≡ b → (n ≡ 4) × (length s < endAt s p)
-    by true q = let z : _≡_ {A = ℕ} 0 1 = cc (block-in (leb-true _ _ q), e) in zero-is-not-one z
-    by false q = ((cc (block-over (leb-false _ _ q), e)), leb-false _ _ q)
+  missed n e =
+      by-test (leb (endAt s p) (length s))
+      (λ q. impossible (cc (block-in (leb-true _ _ q), e)))
+      (λ q. ((cc (block-over (leb-false _ _ q), e)), leb-false _ _ q))
 
-  is-there : endAt s p ≤ length s → there (drop p s) ≡ true
+  pub is-there : endAt s p ≤ length s → there (drop p s) ≡ true
   is-there h = le-leb (2 + stated (drop p s)) (length (drop p s)) (rw length-drop (omega arith))
 
-  not-there : length s < endAt s p → there (drop p s) ≡ false
+  pub not-there : length s < endAt s p → there (drop p s) ≡ false
   not-there h = lt-leb (2 + stated (drop p s)) (length (drop p s)) (rw length-drop (omega arith))
 
   pub rest-at : rest (drop p s) ≡ drop (endAt s p) s

@@ -1,5 +1,3 @@
-pub mod Tests
-pub mod Said
 pub mod Upto
 pub mod Rounding
 pub mod Sound

@@ -12,13 +12,13 @@ use lib.Dec.{leb}
 use Rattle.wire.specs.Checks.{taken, _else_, Passed}
 use Rattle.wire.specs.Fields.{Bytes}
 use Rattle.wire.proofs.Checks.{all-passed}
-use Rattle.wire.proofs.Width.{bytes-drop}
+use Rattle.wire.proofs.Width.{bytes-drop, bytes-take, bytes-append}
 use Rattle.blocks.specs.Blocks.{frames, whole, isWhole, messagesOf, Each, Short}
-use Rattle.blocks.proofs.Frames.{bytes-append, bytes-take, bytes-frames}
+use Rattle.blocks.proofs.Frames.{bytes-frames}
+use Rattle.blocks.proofs.Joining.{cut-joined}
 use Rattle.blocks.proofs.Cutting.{cut-frames}
 use Rattle.lend.specs.Log.{small, blocksIn, messagesIn, hangs, Kept, extended, growing, fitting, adding, toTheEnd, addingMany, declaring}
 use Rattle.lend.specs.declared.log.Log.{Log}
-use Rattle.lend.proofs.Joining.{cut-joined}
 use Rattle.wire.proofs.Tests.{and-left, and-right}
 use Rattle.lend.proofs.Hanging.{hanging, hangs-so}
 

@@ -7,11 +7,13 @@ use mathlib.Core.Bool.{Bool, true, false}
 use native.Mathlib.Omega.{arith}
 use borrow.Author.Tests.{le-leb, leb-true}
 use lib.ListN.{length, take, drop, getD, length-drop}
-use lib.Seq.{drop-cons, length-take-le}
+use lib.Seq.{drop-cons}
 use lib.Dec.{leb}
 use Rattle.wire.specs.Fields.{Bytes}
 use Rattle.blocks.specs.Blocks.{frames, isWhole, Each}
-use Rattle.blocks.proofs.Frames.{bytes-take}
+use Rattle.wire.proofs.Width.{bytes-take, length-part}
+use Rattle.blocks.proofs.Frames.{length-one}
+use Rattle.blocks.proofs.Places.{each-take, each-drop}
 use Rattle.blocks.proofs.Cutting.{frames-cut}
 use Rattle.ufo.specs.Down.{messages, write, Fit}
 use Rattle.blocks.proofs.Counting.{count-cut}
@@ -19,11 +21,9 @@ use Rattle.ufo.proofs.DownLaid.{length-laid}
 use Rattle.lend.specs.Log.{small, messagesIn, hangs}
 use Rattle.lend.specs.Answer.{greatest, from, goes, heartbeatOf, endOf, answerTo}
 use Rattle.lend.specs.declared.log.Log.{Log}
-use Rattle.lend.proofs.Joining.{each-take, each-drop}
-use Rattle.wire.proofs.Tests.{and-left, and-right}
+use Rattle.wire.proofs.Tests.{and-left, and-right, leb-same}
 use Rattle.lend.proofs.Hanging.{hanging}
-use Rattle.lend.proofs.Entering.{length-one}
-use Rattle.lend.proofs.Greatest.{greatest-bound, greatest-passes, greatest-above, greatest-same, leb-same}
+use Rattle.lend.proofs.Greatest.{greatest-bound, greatest-passes, greatest-above, greatest-same}
 use Rattle.lend.proofs.Measuring.{holds}
 
 small-drop : (k : ℕ) (ms : List (List ℕ)) → small ms ≡ true → small (drop k ms) ≡ true
@@ -91,7 +91,7 @@ module _ (ms : List (List ℕ)) (f : ℕ) (h : 0 < f) (g : f ≤ length ms) wher
         asked = greatest-bound (goes ms f) c;
         there = t;
         size = leb-true (length (write (from f k ms))) 1472 (and-right a b e);
-        many = length-take-le k (drop (f - 1) ms) (rw length-drop (omega arith));
+        many = length-part (f - 1) k ms (omega arith);
         above = greatest-above (goes ms f) c;
       }
 

@@ -1,18 +1,13 @@
--- The laws that finish what enters the log: which check refuses, that a refusal leaves the bytes, and that blocks stored at the mark are what is kept.
+-- The laws that finish what enters the log: which check refuses, that a refusal leaves the bytes, and what is taken.
 -- Assumes nothing.
 use Prim.Native.Nat.{ℕ, _+_, _-_, _^_, _≤_, _<_}
 use mathlib.Core.Bool.{true, false}
-use mathlib.Core.List.{List, [], _∷_, _++_, append-assoc, append-nil}
+use mathlib.Core.List.{List, [], _∷_, _++_}
 use mathlib.Core.Path.{_≡_, refl, _∙_}
-use native.Mathlib.Nat.{add-zero}
 use borrow.Author.Tests.{le-leb, lt-leb}
-use lib.ListN.{length, take, drop}
-use lib.Seq.{sets, sets-eq, take-length}
-use Rattle.wire.specs.Fields.{bytesOf}
+use lib.ListN.{length}
 use Rattle.wire.specs.Checks.{Verdict, refused, taken, Check, _else_, checked}
-use Rattle.wire.proofs.Width.{sets-append, length-bytesOf}
-use Rattle.blocks.specs.Blocks.{frame, frames, whole}
-use Rattle.blocks.proofs.Frames.{length-frames}
+use Rattle.blocks.specs.Blocks.{frames, whole}
 use Rattle.lend.specs.Log.{small, hangs, Kept, extended, growing, fitting, adding, toTheEnd, addingMany, Entered}
 use Rattle.lend.specs.declared.log.Log.{Log}
 use Rattle.lend.specs.declared.log.Logged.{Logged}
@@ -24,22 +19,6 @@ refuses v s n e = rw e (record { answer = refl; bytes = refl })
 
 pub enters : (v : Verdict Kept) (s : List ℕ) (k : Kept) (r : Logged) (left : List ℕ) → v ≡ taken k → r ≡ After (k .log) → left ≡ k .bytes → Entered v s r left
 enters v s k r left e a b = rw e (record { answer = a; bytes = b })
-
--- bytes stored at a place
-pub stored-at : (s f : List ℕ) (u : ℕ) → u + length f ≤ length s → sets s u f ≡ take u s ++ (f ++ drop (u + length f) s)
-stored-at s f u h = sets-eq f s u h ∙ append-assoc (take u s) f (drop (u + length f) s)
-
--- one message's blocks
-pub length-one : (m : List ℕ) → length (frames (m ∷ [])) ≡ 2 + length m
-unfolding frames
-length-one m = length-frames m [] ∙ add-zero (2 + length m)
-
--- a length and the message stored after it are its block
-pub framed-at : (s m : List ℕ) (u : ℕ) → sets (sets s u (bytesOf 2 (length m))) (u + 2) (take (length m) (drop 0 m)) ≡ sets s u (frames (m ∷ []))
-unfolding frames
-framed-at s m u =
-    let e : frames (m ∷ []) ≡ frame m = append-nil (frame m) in
-    rw (e, take-length m, ← sets-append s u (bytesOf 2 (length m)) m, length-bytesOf 2 (length m))
 
 -- the checks before the messages are passed, and then the first that fails
 module _ (l : Log) (s : List ℕ) (v : Verdict Kept) where

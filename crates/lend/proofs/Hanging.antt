@@ -3,8 +3,8 @@
 use Prim.Native.Nat.{ℕ, _-_, _^_, _≤_, _<_}
 use mathlib.Core.List.{List}
 use mathlib.Core.Path.{_≡_, refl, sym, _∙_}
-use mathlib.Core.Bool.{Bool, true, false, not, _&&_, and-false, true≢false}
-use borrow.Author.Tests.{le-leb, lt-leb, leb-true, not-true, not-false}
+use mathlib.Core.Bool.{true, false, _&&_, and-false, true≢false}
+use borrow.Author.Tests.{le-leb, lt-leb, leb-true}
 use lib.ListN.{length}
 use lib.Dec.{leb}
 use Rattle.wire.proofs.Tests.{and-left, and-right}
@@ -15,13 +15,6 @@ use Rattle.lend.specs.declared.log.Log.{Log}
 sound-whole : (q : Cut) → sound q ≡ true → (q ≡ whole (messagesOf q)) × (small (messagesOf q) ≡ true)
 sound-whole torn e = absurd (true≢false (sym e))
 sound-whole (whole ms) e = (refl, e)
-
--- what a test of the log tells
-pub found-broken : {t r : Bool} → r ≡ t → not r ≡ true → t ≡ false
-found-broken {r = r} e h = sym e ∙ not-true r h
-
-pub found-whole : {t r : Bool} → r ≡ t → not r ≡ false → t ≡ true
-found-whole {r = r} e h = sym e ∙ not-false r h
 
 module _ (l : Log) (s : List ℕ) where
   pub record Hangs : Type 0 where

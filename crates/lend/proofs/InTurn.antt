@@ -12,12 +12,12 @@ use lib.Dec.{leb}
 use Rattle.wire.specs.Checks.{Verdict, refused, taken, _into_}
 use Rattle.wire.proofs.Checks.{not-both}
 use Rattle.blocks.specs.Blocks.{frames, messagesOf}
-use Rattle.blocks.proofs.Frames.{length-frames, frames-append}
+use Rattle.blocks.proofs.Frames.{length-one, length-frames, frames-append}
 use Rattle.lend.specs.Log.{small, Kept, extended, adding, toTheEnd, addingMany}
 use Rattle.lend.specs.declared.log.Log.{Log}
 use Rattle.wire.proofs.Tests.{and-left, and-right}
 use Rattle.lend.proofs.Adding.{small-short, up-to, after, Fits, grown, added, added-many}
-use Rattle.lend.proofs.Entering.{length-one, takes-one, takes-many}
+use Rattle.lend.proofs.Entering.{takes-one, takes-many}
 use Rattle.lend.proofs.Many.{all-frames}
 
 -- each message added to what the one before it left

@@ -1,5 +1,4 @@
 pub mod Passes
-pub mod Joining
 pub mod Hanging
 pub mod Adding
 pub mod Entering

@@ -1,24 +1,24 @@
 -- Blocks to the very end: cutting what was framed gives the messages, and what the count of them tells.
 -- Assumes nothing.
-use Prim.Native.Nat.{ℕ, zero, suc, _+_, _≤_, _<_}
+use Prim.Native.Nat.{ℕ, zero, suc, _<_}
 use mathlib.Core.List.{List, [], _∷_}
 use mathlib.Core.Path.{_≡_, refl, ap, sym, _∙_}
 use mathlib.Core.Bool.{Bool, true, false}
+use native.Mathlib.Nat.{not-suc-le-zero}
 use native.Mathlib.Omega.{arith}
-use borrow.Author.Tests.{ne-eqb, leb-true}
+use borrow.Author.Tests.{ne-eqb}
 use lib.ListN.{length}
 use lib.Dec.{eqb}
 use Rattle.wire.specs.Fields.{Bytes}
 use Rattle.wire.specs.Checks.{refused}
-use Rattle.blocks.specs.Blocks.{frames, stated, there, first, rest, Cut, torn, whole, cut, messagesOf, Each, Short}
+use Rattle.wire.proofs.Tests.{by-test, impossible}
+use Rattle.blocks.specs.Blocks.{frames, there, first, rest, Cut, torn, whole, cut, messagesOf, Each, Short}
 use Rattle.blocks.specs.declared.Count.the-variants as count
+use Rattle.blocks.proofs.Frames.{there-some}
 use Rattle.blocks.proofs.Counting.{count-frames}
 use Rattle.blocks.proofs.Cutting.{not-torn, stepped, cut-frames, frames-cut}
 use Rattle.lend.specs.Log.{small, hangs, cutAll, toTheEnd, tallied, addingMany}
 use Rattle.lend.specs.declared.log.Log.{Log}
-
-not-empty : (s : List ℕ) → there s ≡ true → eqb (length s) 0 ≡ false
-not-empty s e = let l = leb-true (2 + stated s) (length s) e in ne-eqb (length s) 0 (λ z. omega arith)
 
 -- as many blocks as there are, exactly
 all-cut : (n : ℕ) (s : List ℕ) (ms : List (List ℕ)) → cutAll n s ≡ whole ms → cut (length ms) s ≡ whole ms
@@ -42,15 +42,13 @@ all-cut (suc n) (x ∷ t) ms e = by (there s) refl (cutAll n (rest s)) refl (all
 
 cut-all : (k n : ℕ) (s : List ℕ) (ms : List (List ℕ)) → k < n → cut k s ≡ whole ms → cutAll n s ≡ whole ms
 unfolding cutAll cut
-cut-all k zero s ms h e = absurd (none k h) where
-  none : (k : ℕ) → k < 0 → ⊥
-  none k h = omega arith
+cut-all k zero s ms h e = absurd (not-suc-le-zero h)
 cut-all zero (suc n) [] ms h e = e
 cut-all zero (suc n) (x ∷ t) ms h e = not-torn torn ms refl e
 cut-all (suc k) (suc n) s ms h e =
     let p = stepped k s ms e in
     let more = cut-all k n (rest s) (p .others) (omega arith) (p .cuts) in
-    rw (not-empty s (p .is-there), p .is-there, more) (ap whole (sym (p .are)))
+    rw (there-some s (p .is-there), p .is-there, more) (ap whole (sym (p .are)))
 
 pub all-frames : (ms : List (List ℕ)) → Each Short ms → toTheEnd (frames ms) ≡ whole ms
 all-frames ms h =
@@ -67,24 +65,18 @@ pub record Tallied (q : Cut) (n : ℕ) : Type 0 where
   pub number : n ≡ length (messagesOf q)
 
 pub counted : (q : Cut) (n : ℕ) → tallied q ≡ count.Blocks n → Tallied q n
-counted torn n e = let z : _≡_ {A = ℕ} 0 1 = cc in absurd (differ z) where
-  differ : _≡_ {A = ℕ} 0 1 → ⊥
-  differ z = omega arith
-counted (whole ms) n e = by (small ms) refl where
-  differ : _≡_ {A = ℕ} 0 1 → ⊥
-  differ z = omega arith
-
-  by : (b : Bool) → small ms ≡ b → Tallied (whole ms) n
-  by true z = let f : count.Blocks (length ms) ≡ count.Blocks n = rw z at e in record { cuts = refl; sizes = z; number = cc f }
-  by false z = let f : count.Refused 2 ≡ count.Blocks n = rw z at e in let z : _≡_ {A = ℕ} 0 1 = cc f in absurd (differ z)
+counted torn n e = impossible cc
+counted (whole ms) n e =
+    by-test (small ms)
+    (λ z. let f : count.Blocks (length ms) ≡ count.Blocks n = rw z at e in record { cuts = refl; sizes = z; number = cc f })
+    (λ z. let f : count.Refused 2 ≡ count.Blocks n = rw z at e in impossible (cc f))
 
 pub not-counted : (l : Log) (s f : List ℕ) (n : ℕ) → hangs l s ≡ true → l .ended ≡ false → tallied (toTheEnd f) ≡ count.Refused n → addingMany l s f ≡ refused n
 unfolding addingMany
 not-counted l s f n h g e = by (toTheEnd f) refl where
-  big : (ms : List (List ℕ)) (b : Bool) → small ms ≡ b → toTheEnd f ≡ whole ms → addingMany l s f ≡ refused n
-  big ms true z q = let r : count.Blocks (length ms) ≡ count.Refused n = rw (q, z) at e in cc r
-  big ms false z q = let r : count.Refused 2 ≡ count.Refused n = rw (q, z) at e in let v : 2 ≡ n = cc r in rw (h, g, q, z, v)
-
   by : (q : Cut) → toTheEnd f ≡ q → addingMany l s f ≡ refused n
   by torn q = let r : count.Refused 4 ≡ count.Refused n = rw q at e in let v : 4 ≡ n = cc r in rw (h, g, q, v)
-  by (whole ms) q = big ms (small ms) refl q
+  by (whole ms) q =
+      by-test (small ms)
+      (λ z. let r : count.Blocks (length ms) ≡ count.Refused n = rw (q, z) at e in cc r)
+      (λ z. let r : count.Refused 2 ≡ count.Refused n = rw (q, z) at e in let v : 2 ≡ n = cc r in rw (h, g, q, z, v))

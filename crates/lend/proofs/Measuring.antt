@@ -7,16 +7,16 @@ use mathlib.Core.Bool.{Bool, true, false, _&&_, and-false}
 use native.Mathlib.Nat.{add-zero}
 use native.Mathlib.Omega.{arith}
 use borrow.Author.Tests.{le-leb, lt-leb, leb-true, leb-false}
-use lib.ListN.{length, take, drop, length-drop}
+use lib.ListN.{length, take, drop}
 use lib.Dec.{leb}
 use Rattle.wire.specs.Checks.{_atMost_}
-use Rattle.blocks.specs.Blocks.{frames, stated, first, torn, whole, cut, messagesOf, endAt}
-use Rattle.blocks.proofs.Steps.{rest-at}
-use Rattle.blocks.proofs.Frames.{length-frames, length-first}
-use Rattle.blocks.proofs.Cutting.{not-torn, Stepped, stepped}
+use Rattle.blocks.specs.Blocks.{frames, first, whole, cut, endAt}
+use Rattle.wire.proofs.Tests.{leb-same}
+use Rattle.blocks.proofs.Frames.{length-frames}
+use Rattle.blocks.proofs.Skipping.{SteppedAt, stepped-at, none-at}
 use Rattle.lend.specs.Answer.{greatest, run}
 use Rattle.lend.specs.declared.answer.Run.{Run}
-use Rattle.lend.proofs.Greatest.{greatest-zero, greatest-none, greatest-moved, leb-same}
+use Rattle.lend.proofs.Greatest.{greatest-zero, greatest-none, greatest-moved}
 
 module _ (s : List ℕ) (at p k : ℕ) where
   -- one block further, and where the pass stops
@@ -73,13 +73,6 @@ ran-none : (k p : ℕ) (ms : List (List ℕ)) → ranFrom k p 0 ms ≡ record { 
 unfolding frames
 ran-none k p ms = rw (add-zero k, add-zero p)
 
-no-more : (s : List ℕ) (p : ℕ) (ms : List (List ℕ)) → cut 0 (drop p s) ≡ whole ms → (ms ≡ []) × (length s < endAt s p)
-unfolding cut
-no-more s p ms e = by (drop p s) refl where
-  by : (t : List ℕ) → drop p s ≡ t → (ms ≡ []) × (length s < endAt s p)
-  by [] d = (ap messagesOf (sym (rw d at e)), omega (arith, rw length-drop at (ap length d)))
-  by (x ∷ t) d = not-torn torn ms refl (rw d at e)
-
 ran-more : (k p : ℕ) (m : List ℕ) (os : List (List ℕ)) (j : ℕ) → ranFrom (k + 1) (p + 2 + length m) j os ≡ ranFrom k p (suc j) (m ∷ os)
 ran-more k p m os j =
     let l = length-frames m (take j os) in
@@ -102,12 +95,12 @@ module _ (s : List ℕ) (at : ℕ) where
   pub ran : (c n p k : ℕ) (ms : List (List ℕ)) → at ≤ p → p - at ≤ 1465 → cut n (drop p s) ≡ whole ms → run s at p k c ≡ mostFrom k p c ms
   ran zero n p k ms h r e = rw (greatest-zero (holds ms (1465 - (p - at)))) (run-done s at p k ∙ sym (ran-none k p ms))
   ran (suc c) zero p k ms h r e =
-      let d = no-more s p ms e in
+      let d = none-at s p ms e in
       let g = none-left (1465 - (p - at)) (suc c) in
       run-torn s at p k c (d .1) ∙ sym (ap (mostFrom k p (suc c)) (d .0) ∙ rw g (ran-none k p []))
   ran (suc c) (suc n) p k ms h r e = by (leb (next - at) 1465) refl (λ l. ran c n next (k + 1) others (omega arith) l more-cut) where
-    t : Stepped (drop p s) n ms
-    t = stepped n (drop p s) ms e
+    t : SteppedAt s p n ms
+    t = stepped-at n s p ms e
 
     m : List ℕ
     m = first (drop p s)
@@ -121,16 +114,8 @@ module _ (s : List ℕ) (at : ℕ) where
     room : ℕ
     room = 1465 - (p - at)
 
-    ends : endAt s p ≡ next
-    ends = rw (length-first (drop p s) (t .is-there))
-
     more-cut : cut n (drop next s) ≡ whole others
-    more-cut = rw (← ends, ← rest-at s p) (t .cuts)
-
-    inside : endAt s p ≤ length s
-    inside =
-        let q = leb-true (2 + stated (drop p s)) (length (drop p s)) (t .is-there) in
-        omega (arith, length-drop p s)
+    more-cut = rw (← t .ends) (t .cuts)
 
     by : (b : Bool) → leb (next - at) 1465 ≡ b → (next - at ≤ 1465 → run s at next (k + 1) c ≡ mostFrom (k + 1) next c others) → run s at p k (suc c) ≡ mostFrom k p (suc c) ms
     by true q more =
@@ -138,8 +123,8 @@ module _ (s : List ℕ) (at : ℕ) where
         let v = room-left at p (length m) h l in
         let j = greatest (holds others (1465 - (next - at))) c in
         let g : greatest (holds (m ∷ others) room) (suc c) ≡ suc j = rw (v .1) at (first-in m others room c (v .0)) in
-        run-on s at p k c inside (rw ends l)
-        ∙ ap (λ (x : ℕ). run s at x (k + 1) c) ends
+        run-on s at p k c (t .inside) (rw (t .ends) l)
+        ∙ ap (λ (x : ℕ). run s at x (k + 1) c) (t .ends)
         ∙ more l
         ∙ ran-more k p m others j
         ∙ ap (λ (x : ℕ). ranFrom k p x (m ∷ others)) (sym g)
@@ -147,7 +132,7 @@ module _ (s : List ℕ) (at : ℕ) where
     by false q more =
         let l = leb-false (next - at) 1465 q in
         let g = first-out m others room (suc c) (room-gone at p (length m) h r l) in
-        run-full s at p k c (rw ends l)
+        run-full s at p k c (rw (t .ends) l)
         ∙ sym (ran-none k p (m ∷ others))
         ∙ ap (λ (x : ℕ). ranFrom k p x (m ∷ others)) (sym g)
         ∙ ap (mostFrom k p (suc c)) (sym (t .are))

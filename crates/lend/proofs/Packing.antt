@@ -4,7 +4,7 @@ use Prim.Native.Nat.{ℕ, _+_, _-_, _≤_, _<_}
 use mathlib.Core.List.{List}
 use mathlib.Core.Path.{_≡_, refl, ap, sym, _∙_}
 use mathlib.Core.Bool.{true}
-use native.Mathlib.Nat.{zero-add}
+use native.Mathlib.Nat.{zero-add, sub-self, add-sub-cancel-left}
 use native.Mathlib.Omega.{arith}
 use lib.ListN.{length, take, drop, length-append, length-drop}
 use lib.Seq.{take-at}
@@ -12,7 +12,9 @@ use Rattle.wire.specs.Fields.{Bytes}
 use Rattle.wire.specs.Checks.{taken}
 use Rattle.blocks.specs.Blocks.{frames, placeAfter, placeOf}
 use Rattle.blocks.specs.declared.Place.the-variants as place
-use Rattle.blocks.proofs.Frames.{bytes-take}
+use Rattle.wire.proofs.Tests.{impossible}
+use Rattle.wire.proofs.Width.{bytes-take}
+use Rattle.blocks.proofs.Places.{frames-split}
 use Rattle.blocks.proofs.Skipping.{past, Skipped, skipped, skipped-bytes}
 use Rattle.ufo.specs.Down.{messages, write}
 use Rattle.ufo.specs.WriteDown.{messagesReply}
@@ -21,7 +23,6 @@ use Rattle.lend.specs.Log.{messagesIn, hangs}
 use Rattle.lend.specs.Answer.{greatest, goes, packed, run}
 use Rattle.lend.specs.declared.log.Log.{Log}
 use Rattle.lend.specs.declared.answer.Run.{Run}
-use Rattle.lend.proofs.Joining.{frames-split}
 use Rattle.lend.proofs.Hanging.{hanging}
 use Rattle.lend.proofs.Measuring.{holds, ran}
 use Rattle.lend.proofs.Answering.{count-is, few-in, bytes-in, most-holds, most, from-fits}
@@ -51,18 +52,12 @@ module _ (l : Log) (s : List ℕ) (f c : ℕ) (h : hangs l s ≡ true) (i : 0 < 
   pub never-refused : {C : Type 0} (n : ℕ) → placeOf (placeAfter (f - 1) held 0) ≡ place.Refused n → C
   never-refused n e =
       let p : place.At begins ≡ place.Refused n = rw (skip .place) at e in
-      let z : _≡_ {A = ℕ} 0 1 = cc p in
-      absurd (differ z) where
-        differ : _≡_ {A = ℕ} 0 1 → ⊥
-        differ z = omega arith
+      impossible (cc p)
 
   the-run : run held begins begins 0 c ≡ record { count = number; end = begins + length (frames (take number others)) }
   the-run =
-      let room : 1465 - (begins - begins) ≡ 1465 = same begins in
       let e = ran held begins c (l .count - (f - 1)) begins 0 others (omega arith) (omega arith) (skip .others) in
-      e ∙ rw (room, zero-add (greatest (holds others 1465) c), ← most-holds ms f i there c) where
-        same : (n : ℕ) → 1465 - (n - n) ≡ 1465
-        same n = omega arith
+      e ∙ rw (sub-self begins, zero-add (greatest (holds others 1465) c), ← most-holds ms f i there c)
 
   -- what the code finds
   pub record Sent (room p : ℕ) (r : Run) : Type 0 where
@@ -76,9 +71,6 @@ module _ (l : Log) (s : List ℕ) (f c : ℕ) (h : hangs l s ≡ true) (i : 0 < 
   abbrev size : ℕ
   size = length (frames those)
 
-  span : (n m : ℕ) → n + m - n ≡ m
-  span n m = omega arith
-
   sent-there : (room : ℕ) → Bytes s → 1472 ≤ room → Sent room begins (record { count = number; end = begins + size })
   sent-there room b w =
       let hung = hanging l s h in
@@ -90,7 +82,7 @@ module _ (l : Log) (s : List ℕ) (f c : ℕ) (h : hangs l s ≡ true) (i : 0 < 
       record {
         start = omega arith;
         stop = omega (arith, skip .inside, after);
-        reply = rw (span begins size, bytes, first) (ap (λ (n : ℕ). messagesReply f n (frames those) room) (sym (m .many)) ∙ lawful-fit (messages f those) room fit (omega (arith, m .size)));
+        reply = rw (add-sub-cancel-left begins size, bytes, first) (ap (λ (n : ℕ). messagesReply f n (frames those) room) (sym (m .many)) ∙ lawful-fit (messages f those) room fit (omega (arith, m .size)));
       }
 
   pub sent : (room p : ℕ) (r : Run) → Bytes s → 1472 ≤ room → placeOf (placeAfter (f - 1) held 0) ≡ place.At p → r ≡ run held p p 0 c → Sent room p r

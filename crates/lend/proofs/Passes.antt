@@ -1,6 +1,6 @@
 -- One block further in a pass over blocks: over exactly n of them, and over all that there are.
 -- Assumes nothing.
-use Prim.Native.Nat.{ℕ, suc, _+_, _≤_, _<_}
+use Prim.Native.Nat.{ℕ, suc, _+_, _-_, _≤_, _<_}
 use mathlib.Core.List.{List, [], _∷_}
 use mathlib.Core.Path.{_≡_, refl, sym, _∙_}
 use mathlib.Core.Bool.{Bool, true, false, _&&_, and-false, and-assoc}
@@ -10,16 +10,16 @@ use borrow.Author.Tests.{le-leb, lt-leb, eq-eqb, ne-eqb}
 use lib.ListN.{length, drop, length-drop}
 use lib.Dec.{leb, eqb}
 use Rattle.wire.specs.Checks.{if_then_else_, _atMost_}
-use Rattle.blocks.specs.Blocks.{stated, there, first, Cut, torn, whole, before, cut, isWhole, endAt}
+use Rattle.blocks.specs.Blocks.{stated, first, Cut, torn, whole, before, cut, isWhole, endAt}
 use Rattle.blocks.specs.declared.Count.{Count}
 use Rattle.blocks.specs.declared.Count.the-variants as count
-use Rattle.blocks.proofs.Steps.{cut-step, fills-torn, fills-end, rest-at}
+use Rattle.blocks.proofs.Steps.{is-there, not-there, cut-step, fills-torn, fills-end, rest-at}
 use Rattle.blocks.proofs.Frames.{length-first}
 use Rattle.lend.specs.Log.{small, sound, cutAll, tallied}
 
--- what a block tells that was found at p: its length l, and the place t after it
-abbrev pub Block : List ℕ → ℕ → ℕ → ℕ → Type 0
-Block s p l t = (t ≡ endAt s p) × (l ≡ stated (drop p s)) × (endAt s p ≤ length s)
+-- after k of n turns one more is left
+pub turn : (n k : ℕ) → k < n → n - k ≡ suc (n - (k + 1))
+turn n k h = omega arith
 
 -- how many messages, after k that were counted before, and small only if those were
 abbrev pub tallyFrom : ℕ → Bool → Cut → Count
@@ -38,9 +38,9 @@ sound-before m (whole ms) = refl
 tally-before : (k : ℕ) (b : Bool) (m : List ℕ) (q : Cut) → tallyFrom k b (before m q) ≡ tallyFrom (k + 1) (b && length m atMost 1463) q
 unfolding small
 tally-before k b m torn = refl
-tally-before k b m (whole ms) = rw (and-assoc b (leb (length m) 1463) (small ms), more k (length ms)) where
-  more : (a n : ℕ) → a + suc n ≡ a + 1 + n
-  more a n = omega arith
+tally-before k b m (whole ms) =
+    let more : k + suc (length ms) ≡ k + 1 + length ms = omega arith in
+    rw (and-assoc b (leb (length m) 1463) (small ms), more)
 
 sound-zero : (q : List ℕ) → sound (cut 0 q) ≡ isWhole (cut 0 q)
 unfolding cut small
@@ -48,15 +48,9 @@ sound-zero [] = refl
 sound-zero (x ∷ q) = refl
 
 module _ (s : List ℕ) (p : ℕ) where
-  is-there : endAt s p ≤ length s → there (drop p s) ≡ true
-  is-there h = le-leb (2 + stated (drop p s)) (length (drop p s)) (rw length-drop (omega arith))
-
-  not-there : length s < endAt s p → there (drop p s) ≡ false
-  not-there h = lt-leb (2 + stated (drop p s)) (length (drop p s)) (rw length-drop (omega arith))
-
   module _ (h : endAt s p ≤ length s) where
     long-first : length (first (drop p s)) ≡ stated (drop p s)
-    long-first = length-first (drop p s) (is-there h)
+    long-first = length-first (drop p s) (is-there s p h)
 
     sound-at : (n : ℕ) → sound (cut (suc n) (drop p s)) ≡ (stated (drop p s) atMost 1463 && sound (cut n (drop (endAt s p) s)))
     sound-at n = rw (cut-step s p n h) (sound-before (first (drop p s)) (cut n (drop (endAt s p) s)) ∙ rw long-first)
@@ -71,7 +65,7 @@ module _ (s : List ℕ) (p : ℕ) where
     unfolding cutAll
     tally-step n k b =
         let some : (length (drop p s) ≡ 0) → ⊥ = λ e. omega (arith, rw length-drop at e) in
-        rw (ne-eqb (length (drop p s)) 0 some, is-there h, rest-at s p)
+        rw (ne-eqb (length (drop p s)) 0 some, is-there s p h, rest-at s p)
         (tally-before k b (first (drop p s)) (cutAll n (drop (endAt s p) s)) ∙ rw long-first)
 
   pub sound-torn : (n : ℕ) → p ≤ length s → length s < endAt s p → sound (cut (suc n) (drop p s)) ≡ false
@@ -84,7 +78,7 @@ module _ (s : List ℕ) (p : ℕ) where
 
   pub tally-torn : (n k : ℕ) (b : Bool) → p < length s → length s < endAt s p → tallyFrom k b (cutAll (suc n) (drop p s)) ≡ count.Refused 4
   unfolding cutAll
-  tally-torn n k b i h = rw (ne-eqb (length (drop p s)) 0 (λ e. omega (arith, rw length-drop at e)), not-there h)
+  tally-torn n k b i h = rw (ne-eqb (length (drop p s)) 0 (λ e. omega (arith, rw length-drop at e)), not-there s p h)
 
   pub tally-end : (n k : ℕ) (b v : Bool) → b ≡ v → length s ≤ p → tallyFrom k b (cutAll (suc n) (drop p s)) ≡ (if v then count.Blocks k else count.Refused 2)
   unfolding cutAll small

@@ -5,6 +5,7 @@ use mathlib.Core.List.{List, [], _∷_}
 use mathlib.Core.Bool.{Bool, not, _&&_}
 use lib.ListN.{length, take, drop}
 use Rattle.wire.specs.Checks.{if_then_else_, _is_, _atMost_, taken, Check, _else_, checked}
+use Rattle.wire.specs.Datagram.{limit}
 use Rattle.wire.specs.Reply.{Reply, within}
 use Rattle.blocks.specs.Blocks.{endAt}
 use Rattle.ufo.specs.Down.{Packet, messages, end, write}
@@ -23,7 +24,7 @@ from f k ms = messages f (take k (drop (f - 1) ms))
 
 -- there are so many, and their packet has at most 1,472 bytes
 abbrev pub goes : List (List ℕ) → ℕ → ℕ → Bool
-goes ms f k = f + k - 1 atMost length ms && length (write (from f k ms)) atMost 1472
+goes ms f k = f + k - 1 atMost length ms && length (write (from f k ms)) atMost limit
 
 -- the packet with the most messages, and at most c
 abbrev pub packed : List (List ℕ) → ℕ → ℕ → Packet
@@ -49,7 +50,7 @@ answerable l s f c room =
     (hangs l s else 10)
     ∷ (not (f is 0) else 6)
     ∷ (not (c is 0) else 6)
-    ∷ (1472 atMost room else 9)
+    ∷ (limit atMost room else 9)
     ∷ []
 
 -- what is laid into lent output of so much room

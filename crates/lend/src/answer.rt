@@ -4,6 +4,7 @@ ghost use mathlib.Core.Bool.{true};
 ghost use Prim.Native.Nat.{_≤_, _<_};
 ghost use lib.ListN.{length};
 ghost use Rattle.wire.specs.Checks.{taken};
+ghost use Rattle.wire.specs.Datagram.{limit};
 ghost use Rattle.wire.specs.Reply.{Settled};
 ghost use Rattle.ufo.specs.Down.{write};
 ghost use Rattle.lend.specs.Log.{messagesIn, hangs};
@@ -53,7 +54,7 @@ fn measure(s: &[u8], at: usize, count: u16) -> Run
 
 // Sends messages that the log has, from a number on: as many as one packet can carry.
 fn send(log: Log, bytes: &[u8], first: Sequence, count: u16, out: &mut [u8]) -> Written
-    requires { ⌜ (hangs log (now bytes) ≡ true) × (0 < first .0) × (first .0 ≤ log .count) × (1472 ≤ length (now out)) ⌝ }
+    requires { ⌜ (hangs log (now bytes) ≡ true) × (0 < first .0) × (first .0 ≤ log .count) × (limit ≤ length (now out)) ⌝ }
     ensures { λ r. ⌜ Settled (taken (write (packed (messagesIn log (now (bytes .entry))) (first .0) count))) (now (out .entry)) r (now (out .exit)) ⌝ }
 {
     let used = log.used;

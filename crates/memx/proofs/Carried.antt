@@ -1,38 +1,36 @@
 -- What a packet that is taken as messages says of its bytes: from blocksAt on they are the messages' blocks.
 -- Assumes nothing.
 use Prim.Native.Nat.{ℕ, _≤_}
-use mathlib.Core.Path.{_≡_, refl, sym}
+use mathlib.Core.Path.{_≡_, sym}
 use mathlib.Core.List.{List}
-use mathlib.Core.Bool.{Bool, true, false}
-use native.Mathlib.Omega.{arith}
 use borrow.Author.Tests.{leb-true}
 use lib.ListN.{length, drop}
 use Rattle.wire.specs.Fields.{Bytes}
 use Rattle.wire.specs.Checks.{_is_, taken, Passed}
+use Rattle.wire.proofs.Tests.{by-test, impossible, nonzero}
 use Rattle.wire.proofs.Width.{bytes-drop}
 use Rattle.blocks.specs.Blocks.{frames, whole, cut, messagesOf}
 use Rattle.blocks.proofs.Cutting.{frames-cut}
 use Rattle.memx.specs.Packet.{heartbeat, shutdown, messages, blocksAt}
 use Rattle.memx.specs.Read.{countIn, blocksIn, messagesChecks, news, read}
 use Rattle.blocks.proofs.Counting.{whole-is, length-cut}
-use Rattle.memx.proofs.Taken.{nonzero, Took, as-news, as-messages, took}
+use Rattle.memx.proofs.Taken.{Took, as-news, as-messages, took}
 
 -- messages are no news
 no-news : {C : Type 0} (kind a b session first : ℕ) (ms : List (List ℕ)) → messages session first ms ≡ news kind a b → C
-no-news kind a b session first ms e = by (kind is 0) refl where
-  differ : _≡_ {A = ℕ} 0 1 → ⊥
-  differ z = omega arith
-
-  by : {C : Type 0} (x : Bool) → (kind is 0) ≡ x → C
-  by true q = let f : messages session first ms ≡ heartbeat a b = rw q at e in let z : _≡_ {A = ℕ} 0 1 = cc in absurd (differ z)
-  by false q = let f : messages session first ms ≡ shutdown a b = rw q at e in let z : _≡_ {A = ℕ} 0 1 = cc in absurd (differ z)
+no-news kind a b session first ms e =
+    by-test (kind is 0)
+    (λ q. let f : messages session first ms ≡ heartbeat a b = rw q at e in impossible cc)
+    (λ q. let f : messages session first ms ≡ shutdown a b = rw q at e in impossible cc)
 
 module _ (d : List ℕ) (session first : ℕ) (ms : List (List ℕ)) (e : read d ≡ taken (messages session first ms)) where
   parts : Passed (messagesChecks d) × (blocksIn d ≡ whole ms)
   parts = by (took d (messages session first ms) e .1) where
     by : Took d (messages session first ms) → Passed (messagesChecks d) × (blocksIn d ≡ whole ms)
-    by (as-news kind h k c q) = no-news kind _ _ session first ms q
-    by (as-messages k c q) = let same : ms ≡ messagesOf (blocksIn d) = cc in (c, rw same (whole-is (blocksIn d) (c .1 .0)))
+    by (as-news kind h k c q) = no-news kind _ _ session first ms (sym q)
+    by (as-messages k c q) =
+        let same : ms ≡ messagesOf (blocksIn d) = cc q in
+        (c, rw same (whole-is (blocksIn d) (c .1 .0)))
 
   count : length ms ≡ countIn d
   count = length-cut (countIn d) (drop blocksAt d) ms (parts .1)

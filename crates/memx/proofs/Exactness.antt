@@ -9,15 +9,17 @@ use borrow.Author.Tests.{le-leb, ne-eqb, leb-true, eqb-true}
 use lib.ListN.{length, drop, drop-of-length-le}
 use Rattle.wire.specs.Fields.{Bytes}
 use Rattle.wire.specs.Checks.{if_then_else_, _is_, taken, Passed}
+use Rattle.wire.specs.Datagram.{limit}
+use Rattle.wire.proofs.Tests.{nonzero}
 use Rattle.wire.proofs.Width.{be-lt, bytes-drop, written-again}
 use Rattle.blocks.specs.Blocks.{frames, messagesOf}
 use Rattle.blocks.proofs.Frames.{short-frames}
 use Rattle.blocks.proofs.Cutting.{cut-frames, frames-cut}
-use Rattle.memx.specs.Packet.{Packet, heartbeat, shutdown, messages, limit, headerSize, blocksAt, headed, laid, write, FitNews, FitMessages, Fit}
+use Rattle.memx.specs.Packet.{Packet, heartbeat, shutdown, messages, headerSize, blocksAt, headed, laid, write, FitNews, FitMessages, Fit}
 use Rattle.memx.specs.Read.{kindIn, sessionIn, numberIn, countIn, blocksIn, newsChecks, messagesChecks, news, read}
 use Rattle.blocks.proofs.Counting.{whole-is, count-frames}
 use Rattle.memx.proofs.Header.{length-laid, header-again}
-use Rattle.memx.proofs.Taken.{nonzero, Took, as-news, as-messages, took}
+use Rattle.memx.proofs.Taken.{Took, as-news, as-messages, took}
 use Rattle.memx.proofs.Verdicts.{of-two, news-verdict, laid-verdict}
 
 -- heartbeat and shutdown at once
@@ -81,5 +83,5 @@ module _ (d : List ℕ) (b : Bytes d) where
   pub write-read : (p : Packet) → read d ≡ taken p → Fit p × (write p ≡ d)
   write-read p e = by (took d p e .1) where
     by : Took d p → Fit p × (write p ≡ d)
-    by (as-news kind h k c q) = rw q (news-again kind h k c)
-    by (as-messages k c q) = rw q (messages-again k (took d p e .0) c)
+    by (as-news kind h k c q) = rw (← q) (news-again kind h k c)
+    by (as-messages k c q) = rw (← q) (messages-again k (took d p e .0) c)

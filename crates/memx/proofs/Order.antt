@@ -5,7 +5,8 @@ use mathlib.Core.Path.{_≡_, refl}
 use mathlib.Core.List.{List, _++_}
 use mathlib.Core.Bool.{true}
 use Rattle.wire.specs.Checks.{ordered}
-use Rattle.memx.specs.Read.{opening, newsChecks, messagesChecks}
+use Rattle.wire.specs.Datagram.{opening}
+use Rattle.memx.specs.Read.{newsChecks, messagesChecks}
 
 pub ordered-news : (d : List ℕ) → ordered (opening d ++ newsChecks d) ≡ true
 ordered-news d = refl

@@ -9,18 +9,17 @@ use borrow.Author.Tests.{le-leb, ne-eqb}
 use lib.ListN.{length}
 use Rattle.wire.specs.Fields.{bytesOf}
 use Rattle.wire.specs.Checks.{_is_, _atMost_, taken, Check, _else_, checked}
+use Rattle.wire.specs.Datagram.{limit, opening}
 use Rattle.blocks.specs.Blocks.{cut, isWhole, messagesOf}
-use Rattle.memx.specs.Packet.{messages, limit, blocksAt, headed, laid}
-use Rattle.memx.specs.Read.{kindIn, opening, news, readNews, readMessages, read}
+use Rattle.memx.specs.Packet.{messages, blocksAt, headed, laid}
+use Rattle.memx.specs.Read.{kindIn, news, readNews, readMessages, read}
 use Rattle.memx.proofs.Header.{length-headed, kind-headed, header-headed, session-headed, number-headed, length-laid, count-laid, blocks-laid}
 
 -- what holds of type 0 and of type 1
 pub of-two : (P : ℕ → Type 0) → P 0 → P 1 → (kind : ℕ) → kind ≤ 1 → P kind
 of-two P p q zero h = p
 of-two P p q (suc zero) h = q
-of-two P p q (suc (suc n)) h = absurd (none n h) where
-  none : (n : ℕ) → suc (suc n) ≤ 1 → ⊥
-  none n h = omega arith
+of-two P p q (suc (suc n)) h = absurd (omega arith)
 
 -- types 0 and 1 go one way
 reads-news : (kind : ℕ) (d : List ℕ) → kind ≤ 1 → kindIn d ≡ kind → read d ≡ checked (opening d) (readNews kind d)

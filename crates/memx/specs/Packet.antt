@@ -4,6 +4,7 @@ use Prim.Native.Nat.{ℕ, _+_, _-_, _^_, _≤_, _<_}
 use mathlib.Core.List.{List, [], _∷_, _++_}
 use lib.ListN.{length}
 use Rattle.wire.specs.Fields.{bytesOf, Bytes}
+use Rattle.wire.specs.Datagram.{limit}
 use Rattle.blocks.specs.Blocks.{frames, Each}
 
 -- the highest number published, 0 if none; or messages, numbered from the first on
@@ -11,10 +12,6 @@ pub data Packet : Type 0 where
   heartbeat : (session highest : ℕ) → Packet
   shutdown : (session highest : ℕ) → Packet
   messages : (session first : ℕ) (ms : List (List ℕ)) → Packet
-
--- the most bytes that a packet may have
-abbrev pub limit : ℕ
-limit = 1472
 
 -- the bytes of the header, which is also what it says of itself
 abbrev pub headerSize : ℕ

@@ -6,8 +6,9 @@ use mathlib.Core.Bool.{not}
 use lib.ListN.{length, getD, drop}
 use Rattle.wire.specs.Fields.{be}
 use Rattle.wire.specs.Checks.{if_then_else_, _is_, _atMost_, Verdict, refused, taken, Check, _else_, checked}
+use Rattle.wire.specs.Datagram.{opening}
 use Rattle.blocks.specs.Blocks.{Cut, cut, isWhole, messagesOf}
-use Rattle.memx.specs.Packet.{Packet, heartbeat, shutdown, messages, limit, headerSize, blocksAt}
+use Rattle.memx.specs.Packet.{Packet, heartbeat, shutdown, messages, headerSize, blocksAt}
 
 -- the header's fields: type 1, header length 1, session 8, number 8
 abbrev pub kindIn : List ℕ → ℕ
@@ -28,12 +29,6 @@ countIn d = be 2 (drop headerSize d)
 
 abbrev pub blocksIn : List ℕ → Cut
 blocksIn d = cut (countIn d) (drop blocksAt d)
-
-abbrev pub opening : List ℕ → List Check
-opening d =
-    (not (length d is 0) else 1)
-    ∷ (length d atMost limit else 2)
-    ∷ []
 
 -- a heartbeat or shutdown is the header alone
 abbrev pub newsChecks : List ℕ → List Check

@@ -10,16 +10,15 @@ use borrow.Author.Tests.{le-leb, lt-leb, leb-true, eq-eqb, ne-eqb}
 use lib.Dec.{leb}
 use lib.Ieee.{Float}
 use Rattle.wire.specs.Checks.{if_then_else_, _is_, taken, _else_, _into_}
-use Rattle.wire.proofs.Checks.{all-passed}
+use Rattle.wire.proofs.Tests.{impossible}
+use Rattle.wire.proofs.Checks.{all-passed, went}
 use Rattle.clock.specs.Patience.{waitOver}
 use Rattle.clock.specs.declared.sheet.Sheet.{Sheet}
 use Rattle.clock.specs.declared.patience.Patience.{Patience}
 use Rattle.record.specs.Record.{hangs}
 use Rattle.record.specs.Asking.{nothing, wait, request, askedNow, requestOf, wish, asking}
 use Rattle.record.specs.declared.Record.{Record}
-use Rattle.record.proofs.Tests.{impossible}
 use Rattle.record.proofs.Hanging.{hanging, hangs-so}
-use Rattle.record.proofs.Into.{went}
 
 -- N and min(T-N+1, 65,535), and A becomes N
 pub record Requests (r : Record) (first count : ℕ) (after : Record) : Type 0 where
@@ -44,7 +43,7 @@ module _ (r : Record) (s : Sheet) (p : Patience) (elapsed : Float) where
   requests first count after e =
       let c = all-passed ((hangs r else 10) ∷ []) (waitOver s p elapsed into λ late. taken (wish r late)) (request first count after) e in
       let w = went (waitOver s p elapsed) (λ late. taken (wish r late)) (request first count after) (c .1) in
-      let q : wish r (w .by) ≡ request first count after = cc (w .then) in
+      let q : wish r (w .by) ≡ request first count after = cc (w .gave) in
       let k = wishes r (w .by) first count after q in
       record { hangs = c .0 .0; lacks = k .0; from = cc (k .1); many = cc (k .1); changes = cc (k .1) }
 

@@ -5,42 +5,35 @@ use mathlib.Core.List.{List, []}
 use mathlib.Core.Path.{_≡_, refl}
 use mathlib.Core.Bool.{Bool, true, false}
 use native.Mathlib.Omega.{arith}
-use borrow.Author.Tests.{leb-true}
 use lib.Dec.{leb}
 use lib.ListN.{length, drop, length-drop}
 use Rattle.wire.specs.Checks.{if_then_else_, Verdict, refused, taken, _into_}
 use Rattle.wire.specs.Fields.{Bytes}
 use Rattle.wire.specs.Reply.{leftOf, within, Settled}
 use Rattle.wire.specs.declared.output.Written.the-variants as written
-use Rattle.wire.proofs.Width.{bytes-drop}
-use Rattle.blocks.specs.Blocks.{frames, whole, cut, isWhole}
-use Rattle.blocks.proofs.Cutting.{frames-cut}
+use Rattle.blocks.specs.Blocks.{frames, whole, cut}
 use Rattle.blocks.proofs.Skipping.{skipped, skipped-bytes}
-use Rattle.blocks.proofs.Counting.{whole-is}
+use Rattle.blocks.proofs.Counting.{fills-cut, length-cut}
 use Rattle.record.specs.Hearing.{messages}
 use Rattle.record.specs.Taking.{clash, delivered, told, Taking, reporting, takenOf, Answered}
 use Rattle.record.specs.Steps.{passing, handed, Fills, blocksFrom}
 use Rattle.record.specs.declared.Record.{Record}
 use Rattle.record.specs.declared.take.Taken.{Taken}
 use Rattle.record.specs.declared.take.Taken.the-variants as takes
-use Rattle.record.proofs.Tests.{both}
 use Rattle.record.proofs.Reports.{among, reports-none, leaves}
 
 -- blocks that fill the datagram from p on
 module _ (d : List ℕ) (p first count : ℕ) (b : Bytes d) (f : Fills d p first count) where
-  starts : p ≤ length d
-  starts = leb-true p (length d) (both (leb p (length d)) (isWhole (cut count (drop p d))) (f .blocks) .0)
-
-  cuts : cut count (drop p d) ≡ whole (blocksFrom d p count)
-  cuts = whole-is (cut count (drop p d)) (both (leb p (length d)) (isWhole (cut count (drop p d))) (f .blocks) .1)
+  cuts : (p ≤ length d) × (cut count (drop p d) ≡ whole (blocksFrom d p count))
+  cuts = fills-cut d p count (f .blocks)
 
   pub counted : length (blocksFrom d p count) ≡ count
-  counted = frames-cut count (drop p d) (blocksFrom d p count) (bytes-drop p d b) cuts .1
+  counted = length-cut count (drop p d) (blocksFrom d p count) (cuts .1)
 
   -- what is handed over after the first k are the others' blocks
   pub hands-others : (k room : ℕ) → k ≤ count → handed k d p room ≡ within room (frames (drop k (blocksFrom d p count)))
   hands-others k room h =
-      rw (skipped k count d p (blocksFrom d p count) starts cuts h .place, skipped-bytes k count d p (blocksFrom d p count) b starts cuts h)
+      rw (skipped k count d p (blocksFrom d p count) (cuts .0) (cuts .1) h .place, skipped-bytes k count d p (blocksFrom d p count) b (cuts .0) (cuts .1) h)
 
 module _ (r : Record) (first count : ℕ) (ms : List (List ℕ)) (l : length ms ≡ count) (out : List ℕ) where
   abbrev said : Verdict Taking

@@ -7,7 +7,7 @@ use borrow.Author.Tests.{leb-true, le-leb}
 use lib.Dec.{leb}
 use Rattle.record.specs.Record.{lawful, highest, hangs}
 use Rattle.record.specs.declared.Record.{Record}
-use Rattle.record.proofs.Tests.{both}
+use Rattle.wire.proofs.Tests.{both}
 
 pub record Hanging (r : Record) : Type 0 where
   pub begun : 1 ≤ r .next .0

@@ -1,6 +1,6 @@
 -- What was heard: a report of the record's own session, whose numbers keep the style's bounds and whose blocks stand in the datagram.
 -- Assumes nothing.
-use Prim.Native.Nat.{ℕ, _+_, _-_, _^_, _≤_, _<_}
+use Prim.Native.Nat.{ℕ, _+_, _^_, _≤_, _<_}
 use mathlib.Core.List.{List, [], _∷_}
 use mathlib.Core.Path.{_≡_, refl}
 use native.Mathlib.Omega.{arith}
@@ -10,7 +10,7 @@ use Rattle.wire.specs.Checks.{_is_, Verdict, refused, taken, _else_}
 use Rattle.wire.specs.Fields.{Bytes}
 use Rattle.wire.specs.declared.kinds.Name.{Name}
 use Rattle.wire.specs.declared.kinds.SessionId.{SessionId}
-use Rattle.wire.proofs.Checks.{not-both, all-passed}
+use Rattle.wire.proofs.Checks.{not-both, all-passed, went}
 use Rattle.blocks.specs.Blocks.{whole, cut}
 use Rattle.ufo.specs.Down as ufo
 use Rattle.ufo.proofs.DownMessages.{carries}
@@ -27,7 +27,6 @@ use Rattle.record.specs.declared.Session.{Session}
 use Rattle.record.specs.declared.Session.the-variants.{Ufo, Memx}
 use Rattle.record.specs.declared.hear.Heard.{Heard}
 use Rattle.record.specs.declared.hear.Heard.the-variants as heard
-use Rattle.record.proofs.Into.{went}
 
 -- messages stand in the datagram from p on
 abbrev Stand : List ℕ → ℕ → Report → Type 0
@@ -79,10 +78,10 @@ module _ (d : List ℕ) (b : Bytes d) where
   unfolding hear
   sound (Ufo name) report e =
       let w = went (ufo.read d) ofUfo report e in
-      sound-ufo name (w .by) report (w .was) (w .then)
+      sound-ufo name (w .by) report (w .was) (w .gave)
   sound (Memx id) report e =
       let w = went (memxRead.read d) (ofMemx (id .0)) report e in
-      sound-memx id (w .by) report (w .was) (w .then)
+      sound-memx id (w .by) report (w .was) (w .gave)
 
 -- a lawful packet, written, is heard as what it is
 pub hears-ufo : (name : Name) (p : ufo.Packet) → ufo.Fit p → hear (Ufo name) (ufo.write p) ≡ ofUfo p

@@ -1,6 +1,3 @@
-pub mod Tests
-pub mod Into
-pub mod Places
 pub mod Hanging
 pub mod Hearing
 pub mod Reports

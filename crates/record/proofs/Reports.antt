@@ -3,7 +3,7 @@
 use Prim.Native.Nat.{ℕ, _+_, _-_, _≤_, _<_}
 use mathlib.Core.List.{List, [], _∷_}
 use mathlib.Core.Path.{_≡_, refl}
-use mathlib.Core.Bool.{Bool, true, false, _&&_}
+use mathlib.Core.Bool.{Bool, false, _&&_, and-false}
 use native.Mathlib.Nat.{add-zero}
 use native.Mathlib.Omega.{arith}
 use borrow.Author.Tests.{le-leb, lt-leb, leb-true, not-true}
@@ -11,6 +11,7 @@ use lib.Dec.{leb}
 use lib.ListN.{length, drop}
 use lib.Seq.{drop-nil}
 use Rattle.wire.specs.Checks.{taken}
+use Rattle.wire.proofs.Tests.{by-test, both}
 use Rattle.wire.proofs.Checks.{all-passed, passed-all}
 use Rattle.blocks.specs.Blocks.{frames}
 use Rattle.record.specs.Hearing.{Report, messages, news, end}
@@ -18,7 +19,6 @@ use Rattle.record.specs.Taking.{topOf, isEnd, clash, contradicts, delive
 use Rattle.record.specs.Steps.{passing}
 use Rattle.record.specs.declared.Record.{Record}
 use Rattle.record.specs.declared.take.Taken.{Taken}
-use Rattle.record.proofs.Tests.{and-false}
 
 -- the first number is at most N and the last at least N
 pub among : (next first : ℕ) (ms : List (List ℕ)) → first ≤ next → next < first + length ms → delivered next (messages first ms) ≡ drop (next - first) ms
@@ -40,18 +40,17 @@ pub data Lies (next : ℕ) : Report → Type 0 where
 pub lies : (next : ℕ) (report : Report) → Lies next report
 lies next (news highest) = passes (news highest) refl
 lies next (end total) = passes (end total) refl
-lies next (messages first []) = passes (messages first []) (by (leb first next && leb next (first + 0 - 1)) refl) where
-  by : (b : Bool) → leb first next && leb next (first + 0 - 1) ≡ b → delivered next (messages first []) ≡ []
-  by true e = rw e (drop-nil (next - first))
-  by false e = rw e
-lies next (messages first (m ∷ ms)) = by (leb first next) refl (leb next (first + length (m ∷ ms) - 1)) refl where
-  by : (a : Bool) → leb first next ≡ a → (b : Bool) → leb next (first + length (m ∷ ms) - 1) ≡ b → Lies next (messages first (m ∷ ms))
-  by false p b q = passes (messages first (m ∷ ms)) (rw p)
-  by true p false q = passes (messages first (m ∷ ms)) (rw (p, q))
-  by true p true q =
-      let a = leb-true first next p in
-      let b = leb-true next (first + length (m ∷ ms) - 1) q in
-      reaches first (m ∷ ms) a (omega arith)
+lies next (messages first []) =
+    passes (messages first [])
+    (by-test (leb first next && leb next (first + 0 - 1)) (λ e. rw e (drop-nil (next - first))) (λ e. rw e))
+lies next (messages first (m ∷ ms)) =
+    let last = first + length (m ∷ ms) - 1 in
+    by-test (leb first next && leb next last)
+    (λ e.
+    let b = both (leb first next) (leb next last) e in
+    let l = leb-true next last (b .1) in
+    reaches first (m ∷ ms) (leb-true first next (b .0)) (omega arith))
+    (λ e. passes (messages first (m ∷ ms)) (rw e))
 
 -- a report that delivers nothing is passed
 module _ (r : Record) (report : Report) (e : delivered (r .next .0) report ≡ []) where
@@ -62,10 +61,8 @@ module _ (r : Record) (report : Report) (e : delivered (r .next .0) report ≡ [
 -- and leaves the lent output
 pub leaves : (r : Record) (top : ℕ) (final : Bool) (out : List ℕ) (a : Taken) → a ≡ takenOf (passing r top final) → Answered (passing r top final) out a out
 unfolding passing frames
-leaves r top final out a e = by (clash r top final) refl where
-  by : (b : Bool) → clash r top final ≡ b → Answered (passing r top final) out a out
-  by true q = record { answer = e; bytes = rw q }
-  by false q = record { answer = e; bytes = rw q }
+leaves r top final out a e =
+    by-test (clash r top final) (λ q. record { answer = e; bytes = rw q }) (λ q. record { answer = e; bytes = rw q })
 
 -- what is known of a report that was taken
 pub record Reported (r : Record) (room : ℕ) (report : Report) (t : Taking) : Type 0 where

@@ -6,13 +6,12 @@ use mathlib.Core.Path.{_≡_}
 use mathlib.Core.Bool.{true, false}
 use lib.ListN.{length}
 use Rattle.wire.specs.Checks.{taken, _else_, _into_}
-use Rattle.wire.proofs.Checks.{all-passed}
+use Rattle.wire.proofs.Checks.{all-passed, went}
 use Rattle.blocks.specs.Blocks.{frames}
 use Rattle.record.specs.Record.{hangs}
 use Rattle.record.specs.Hearing.{Report, hear}
 use Rattle.record.specs.Taking.{contradicts, delivered, Taking, outcome, reporting, taking}
 use Rattle.record.specs.declared.Record.{Record}
-use Rattle.record.proofs.Into.{went}
 use Rattle.record.proofs.Reports.{Reported, reported, reports}
 
 pub record Took (r : Record) (d : List ℕ) (room : ℕ) (t : Taking) : Type 0 where
@@ -27,7 +26,7 @@ module _ (r : Record) (d : List ℕ) (room : ℕ) where
   took t e =
       let p = all-passed ((hangs r else 10) ∷ []) (hear (r .session) d into reporting r room) t e in
       let w = went (hear (r .session) d) (reporting r room) t (p .1) in
-      record { hangs = p .0 .0; report = w .by; heard = w .was; reported = reported r room (w .by) t (w .then) }
+      record { hangs = p .0 .0; report = w .by; heard = w .was; reported = reported r room (w .by) t (w .gave) }
 
   pub takes : (report : Report) → hangs r ≡ true → hear (r .session) d ≡ taken report → contradicts r report ≡ false → length (frames (delivered (r .next .0) report)) ≤ room → taking r d room ≡ taken (outcome r report)
   unfolding taking

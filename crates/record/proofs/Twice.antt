@@ -2,8 +2,8 @@
 -- Assumes nothing.
 use Prim.Native.Nat.{ℕ, _+_, _-_, max}
 use mathlib.Core.List.{List, []}
-use mathlib.Core.Path.{_≡_, refl, ap, _∙_}
-use mathlib.Core.Bool.{Bool, true, false, not, _&&_, _||_}
+use mathlib.Core.Path.{_≡_, ap, _∙_}
+use mathlib.Core.Bool.{Bool, true, false, not, _&&_, _||_, and-false, or-assoc, or-self}
 use native.Mathlib.Nat.{add-zero}
 use native.Mathlib.Omega.{arith}
 use borrow.Author.Tests.{le-leb, leb-true, not-false}
@@ -16,7 +16,7 @@ use Rattle.record.specs.Record.{hangs}
 use Rattle.record.specs.Hearing.{Report}
 use Rattle.record.specs.Taking.{topOf, isEnd, delivered, after, Taking, outcome, taking}
 use Rattle.record.specs.declared.Record.{Record}
-use Rattle.record.proofs.Tests.{and-false, or-right}
+use Rattle.wire.proofs.Tests.{or-right}
 use Rattle.record.proofs.Reports.{Lies, reaches, passes, lies, among, late}
 use Rattle.record.proofs.Taken.{took, takes}
 use Rattle.record.proofs.Kept.{taking-hangs}
@@ -32,11 +32,6 @@ nothing-more next report (reaches first ms a b) =
 again : (a b : ℕ) → max (max a b) b ≡ max a b
 again a b = omega arith
 
-or-again : (a b : Bool) → a || b || b ≡ a || b
-or-again true b = refl
-or-again false true = refl
-or-again false false = refl
-
 -- what was agreed to is agreed to again
 agreed : (ended final : Bool) (top told : ℕ) → ended && not (leb told top) || final && not (leb top told) ≡ false → (ended || final) && not (leb told (max top told)) || final && not (leb (max top told) told) ≡ false
 agreed ended false top told e = rw (le-leb told (max top told) (omega arith), and-false (ended || false))
@@ -47,7 +42,7 @@ agreed ended true top told e =
 -- told the same again, a record delivers nothing and is as it was
 same-again : (r : Record) (report : Report) → outcome (after r report) report ≡ record { delivered = []; after = after r report }
 same-again r report =
-    rw (nothing-more (r .next .0) report (lies (r .next .0) report), add-zero, again, or-again)
+    rw (nothing-more (r .next .0) report (lies (r .next .0) report), add-zero, again, or-assoc, or-self)
 
 -- A datagram taken twice in a row delivers nothing the second time, whatever the room, and leaves the record as after the first.
 pub twice : (r : Record) (d : List ℕ) (room : ℕ) (t : Taking) → Bytes d → taking r d room ≡ taken t → (more : ℕ) → taking (t .after) d more ≡ taken (record { delivered = []; after = t .after })

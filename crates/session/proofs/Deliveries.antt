@@ -7,12 +7,12 @@ use native.Mathlib.Omega.{arith}
 use lib.ListN.{length, take, drop, take-append-drop}
 use lib.Seq.{length-take-le, take-append-seam, getD-take}
 use Rattle.blocks.specs.Blocks.{frames}
-use Rattle.blocks.proofs.Frames.{bytes-take}
+use Rattle.wire.proofs.Width.{bytes-take}
 use Rattle.blocks.proofs.Cutting.{frames-cut}
 use Rattle.lend.specs.Log.{messagesIn}
 use Rattle.lend.specs.declared.log.Log.{Log}
 use Rattle.lend.proofs.Hanging.{hanging}
-use Rattle.lend.proofs.Joining.{frames-split}
+use Rattle.blocks.proofs.Places.{frames-split}
 use Rattle.session.specs.Session.{State, logged}
 use Rattle.session.specs.Promise.{Faithful, Delivered}
 use Rattle.session.proofs.Logs.{Hung}

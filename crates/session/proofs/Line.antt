@@ -9,7 +9,7 @@ use borrow.Author.Tests.{le-leb, ne-eqb}
 use Rattle.wire.specs.Checks.{taken}
 use Rattle.wire.proofs.Checks.{all-passed}
 use Rattle.ufo.specs.Down as ufo
-use Rattle.ufo.proofs.DownTaken.{positive}
+use Rattle.wire.proofs.Tests.{nonzero as positive}
 use Rattle.lend.specs.Log.{messagesIn}
 use Rattle.lend.specs.Answer.{answerTo, answerable, answerReply, heartbeatReply, endPacketReply}
 use Rattle.lend.specs.declared.log.Log.{Log}

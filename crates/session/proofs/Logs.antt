@@ -8,9 +8,9 @@ use lib.ListN.{length, take, drop}
 use Rattle.wire.specs.Fields.{Bytes}
 use Rattle.wire.specs.Checks.{taken, _else_}
 use Rattle.wire.proofs.Checks.{all-passed}
-use Rattle.wire.proofs.Width.{bytes-drop}
+use Rattle.wire.proofs.Width.{bytes-drop, bytes-take, bytes-append}
 use Rattle.blocks.specs.Blocks.{frames, whole, isWhole, messagesOf, Each, Short}
-use Rattle.blocks.proofs.Frames.{bytes-append, bytes-frames, bytes-take}
+use Rattle.blocks.proofs.Frames.{bytes-frames}
 use Rattle.blocks.proofs.Cutting.{cut-frames, frames-cut}
 use Rattle.blocks.proofs.Counting.{whole-is}
 use Rattle.lend.specs.Log.{messagesIn, hangs, Kept, extended, growing, fitting, adding, toTheEnd, addingMany, declaring}

@@ -19,7 +19,7 @@ use Rattle.blocks.specs.Blocks.{frames, cut, cutFull}
 use Rattle.ufo.specs.Down.{readS, readE, read}
 use Rattle.ufo.specs.Up.{request, readT, readMessage, readEach, readUp}
 use Rattle.ufo.specs.WriteUp.{verdict, reply}
-use Rattle.ufo.proofs.DownWire.{bytes-cons}
+use Rattle.wire.proofs.Width.{bytes-cons}
 use Rattle.clock.specs.Milliseconds.{whole}
 use Rattle.clock.specs.declared.sheet.Sheet.{Sheet}
 use Rattle.clock.specs.declared.patience.Patience.the-variants.{Never}

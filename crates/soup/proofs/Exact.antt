@@ -2,7 +2,7 @@
 -- Assumes nothing.
 use Prim.Native.Nat.{ℕ, _+_, _-_, _^_, _≤_, _<_}
 use mathlib.Core.Path.{_≡_, refl, sym, ap, _∙_}
-use mathlib.Core.Logic.{⊎-elim, ⊎-map}
+use mathlib.Core.Logic.{⊎-elim}
 use mathlib.Core.List.{List, [], _∷_, _++_, append-assoc, append-nil}
 use mathlib.Core.Bool.{true, not}
 use native.Mathlib.Omega.{arith}
@@ -13,15 +13,15 @@ use borrow.Author.Tests.{eq-eqb, ne-eqb, le-leb, eqb-true, eqb-false, leb-true, 
 use Rattle.wire.specs.Fields.{Bytes}
 use Rattle.wire.specs.Checks.{Verdict, taken, refused, checked, Passed}
 use Rattle.wire.specs.Text.{blank}
-use Rattle.wire.proofs.Checks.{all-passed, passed-all, not-both}
-use Rattle.wire.proofs.Width.{bytes-drop}
+use Rattle.wire.proofs.Checks.{all-passed, passed-all, not-both, taken-same, chosen}
+use Rattle.wire.proofs.Tests.{one-of-fact}
+use Rattle.wire.proofs.Width.{bytes-drop, bytes-take, length-part}
 use Rattle.soup.specs.Decimal.{wellFormed, valueOf, written}
 use Rattle.soup.specs.Packet.{Packet, debug, accept, reject, sequenced, serverHeartbeat, endOfSession, login, unsequenced, clientHeartbeat, logout, line, write, Payload, Fit}
 use Rattle.soup.specs.Read.{last, field, payload, unbroken, opening, lineChecks, sizedChecks, rejectChecks, acceptChecks, loginChecks, rejectOf, acceptOf, loginOf, readReject, readAccept, readLogin, byType, read}
 use Rattle.soup.proofs.Written.{read-written, written-read, length-written}
 use Rattle.soup.proofs.Linefeed.{unbroken-none, none-unbroken, more, append-unbroken, right-unbroken, left-unbroken, written-unbroken}
-use Rattle.soup.proofs.Lines.{length-line, last-line, front-line, payload-line, line-whole, two-bytes, payload-unbroken, length-field, fields-join, field-in}
-use Rattle.soup.proofs.Choices.{chosen, either, taken-same, bytes-take}
+use Rattle.soup.proofs.Lines.{length-line, last-line, front-line, payload-line, line-whole, two-bytes, payload-unbroken, fields-join, field-in}
 
 -- ---- a lawful packet passes every check
 
@@ -156,7 +156,7 @@ module _ (d : List ℕ) (b : Bytes d) (o : Passed (opening d)) (p : Packet) wher
       let r = all-passed (rejectChecks (getD d 1 0)) (taken (reject (getD d 1 0))) p (verdict 3 (omega arith) v e) in
       let c : field 1 1 d ≡ getD d 1 0 ∷ [] = rw (drop-cons d 1 0 (omega (arith, size 3 (omega arith) v e))) in
       rw (← taken-same (reject (getD d 1 0)) p (r .1)) (
-        ⊎-map (eqb-true (getD d 1 0) 65) (eqb-true (getD d 1 0) 83) (either (eqb (getD d 1 0) 65) (eqb (getD d 1 0) 83) (r .0 .0)),
+        one-of-fact (getD d 1 0) 65 83 (r .0 .0),
         ap (line 74) (sym c) ∙ framed 3 (omega arith) v e 74 t,
       )
 
@@ -172,10 +172,10 @@ module _ (d : List ℕ) (b : Bytes d) (o : Passed (opening d)) (p : Packet) wher
       let v = acceptOf session number in
       let l : length d ≡ 32 = size 32 (omega arith) v e in
       let r = all-passed (acceptChecks session number) (taken (accept session (valueOf number))) p (verdict 32 (omega arith) v e) in
-      let n = numbered number (length-field 11 20 d (omega arith)) (r .0 .1 .0) (r .0 .1 .1 .1 .0) (r .0 .1 .1 .1 .1 .1 .0) in
+      let n = numbered number (length-part 11 20 d (omega arith)) (r .0 .1 .0) (r .0 .1 .1 .1 .0) (r .0 .1 .1 .1 .1 .1 .0) in
       let z = eqb-false (valueOf number) 0 (not-true (eqb (valueOf number) 0) (r .0 .1 .1 .1 .1 .0)) in
       rw (← taken-same (accept session (valueOf number)) p (r .1)) (
-        ((length-field 1 10 d (omega arith), r .0 .0), not-true (blank session) (r .0 .1 .1 .0), omega arith, n .1),
+        ((length-part 1 10 d (omega arith), r .0 .0), not-true (blank session) (r .0 .1 .1 .0), omega arith, n .1),
         ap (λ (s : List ℕ). line 65 (session ++ s)) (n .0) ∙ ap (line 65) (sym (fields-join 1 10 20 d)) ∙ framed 32 (omega arith) v e 65 t,
       )
 
@@ -189,13 +189,13 @@ module _ (d : List ℕ) (b : Bytes d) (o : Passed (opening d)) (p : Packet) wher
       let v = loginOf user password session number in
       let l : length d ≡ 48 = size 48 (omega arith) v e in
       let r = all-passed (loginChecks user password session number) (taken (login user password session (valueOf number))) p (verdict 48 (omega arith) v e) in
-      let n = numbered number (length-field 27 20 d (omega arith)) (r .0 .1 .1 .1 .0) (r .0 .1 .1 .1 .1 .0) (r .0 .1 .1 .1 .1 .1 .0) in
+      let n = numbered number (length-part 27 20 d (omega arith)) (r .0 .1 .1 .1 .0) (r .0 .1 .1 .1 .1 .0) (r .0 .1 .1 .1 .1 .1 .0) in
       let joined : user ++ password ++ session ++ number ≡ field 1 46 d = rw (← fields-join 1 6 10 d, ← fields-join 1 16 10 d, ← fields-join 1 26 20 d) in
       rw (← taken-same (login user password session (valueOf number)) p (r .1)) (
         (
-          (length-field 1 6 d (omega arith), r .0 .0),
-          (length-field 7 10 d (omega arith), r .0 .1 .0),
-          (length-field 17 10 d (omega arith), r .0 .1 .1 .0),
+          (length-part 1 6 d (omega arith), r .0 .0),
+          (length-part 7 10 d (omega arith), r .0 .1 .0),
+          (length-part 17 10 d (omega arith), r .0 .1 .1 .0),
           n .1,
         ),
         ap (λ (s : List ℕ). line 76 (user ++ password ++ session ++ s)) (n .0) ∙ ap (line 76) joined ∙ framed 48 (omega arith) v e 76 t,
@@ -207,16 +207,16 @@ module _ (d : List ℕ) (b : Bytes d) (o : Passed (opening d)) (p : Packet) wher
   sorted =
       let kind = getD d 0 0 in
       chosen (eqb kind 43) _ _ (taken p) (carried 43 debug (λ s f. f) (λ s. refl) (eqb-false 43 10 refl))
-      (chosen (eqb kind 65) _ _ (taken p) accepted
-      (chosen (eqb kind 74) _ _ (taken p) rejected
-      (chosen (eqb kind 83) _ _ (taken p) (carried 83 sequenced (λ s f. f) (λ s. refl) (eqb-false 83 10 refl))
-      (chosen (eqb kind 72) _ _ (taken p) (bare 72 serverHeartbeat tt refl)
-      (chosen (eqb kind 90) _ _ (taken p) (bare 90 endOfSession tt refl)
-      (chosen (eqb kind 76) _ _ (taken p) logged-in
-      (chosen (eqb kind 85) _ _ (taken p) (carried 85 unsequenced (λ s f. f) (λ s. refl) (eqb-false 85 10 refl))
-      (chosen (eqb kind 82) _ _ (taken p) (bare 82 clientHeartbeat tt refl)
-      (chosen (eqb kind 79) _ _ (taken p) (bare 79 logout tt refl)
-      (λ e. not-both (refused 3) 3 p refl e))))))))))
+      (λ _. chosen (eqb kind 65) _ _ (taken p) accepted
+      (λ _. chosen (eqb kind 74) _ _ (taken p) rejected
+      (λ _. chosen (eqb kind 83) _ _ (taken p) (carried 83 sequenced (λ s f. f) (λ s. refl) (eqb-false 83 10 refl))
+      (λ _. chosen (eqb kind 72) _ _ (taken p) (bare 72 serverHeartbeat tt refl)
+      (λ _. chosen (eqb kind 90) _ _ (taken p) (bare 90 endOfSession tt refl)
+      (λ _. chosen (eqb kind 76) _ _ (taken p) logged-in
+      (λ _. chosen (eqb kind 85) _ _ (taken p) (carried 85 unsequenced (λ s f. f) (λ s. refl) (eqb-false 85 10 refl))
+      (λ _. chosen (eqb kind 82) _ _ (taken p) (bare 82 clientHeartbeat tt refl)
+      (λ _. chosen (eqb kind 79) _ _ (taken p) (bare 79 logout tt refl)
+      (λ _. not-both (refused 3) 3 p refl))))))))))
 
 -- Nothing else is taken: what is taken is lawful, and written again it gives the very bytes that were read.
 pub read-is-written : (d : List ℕ) (p : Packet) → Bytes d → read d ≡ taken p → Fit p × (write p ≡ d)

@@ -12,8 +12,7 @@ use Rattle.wire.specs.Checks.{Verdict, refused, Check, checked}
 use Rattle.soup.specs.Packet.{Packet}
 use Rattle.soup.specs.Read.{sizedChecks}
 use Rattle.soup.specs.Reading.{readingOf, fault, orRefused}
-use Rattle.wire.proofs.Tests.{and-left, and-right}
-use Rattle.soup.proofs.Choices.{by-test}
+use Rattle.wire.proofs.Tests.{by-test, and-left, and-right}
 
 -- no check refuses under the number 0
 abbrev pub numbered : List Check → Bool

@@ -7,7 +7,7 @@ use native.Mathlib.Omega.{arith}
 use lib.ListN.{length, set, length-append}
 use lib.Seq.{sets}
 use Rattle.wire.proofs.Settling.{replaced}
-use Rattle.wire.proofs.Width.{sets-append}
+use Rattle.wire.proofs.Width.{sets-append, sets-after}
 use Rattle.soup.specs.Decimal.{written}
 use Rattle.soup.specs.Packet.{accept, login, line, write}
 use Rattle.soup.proofs.Written.{length-written}
@@ -19,10 +19,6 @@ stored-line out s kind =
     let e : length s + 1 ≡ 1 + length s = omega arith in
     rw e (sets-append (set out 0 kind) 1 s (10 ∷ []))
 
--- one more part, after a of n bytes
-part-after : (l : List ℕ) (at n : ℕ) (a b : List ℕ) → length a ≡ n → sets (sets l at a) (at + n) b ≡ sets l at (a ++ b)
-part-after l at n a b e = rw (← e) (sets-append l at a b)
-
 -- the type byte, a payload of n bytes and the linefeed fill a packet of n + 2
 filled : (l s : List ℕ) (kind n : ℕ) → length s ≡ n → length l ≡ n + 2 → set (sets (set l 0 kind) 1 s) (n + 1) 10 ≡ line kind s
 filled l s kind n e h =
@@ -33,7 +29,7 @@ pub accept-laid : (l x y session : List ℕ) (number : ℕ) → length l ≡ 32 
 accept-laid l x y session number h s e f =
     let w = written number in
     let m : length (session ++ w) ≡ 30 = simp (length-append, length-written) (omega arith) in
-    rw (f, e, part-after (set l 0 65) 1 10 session w s) (filled l (session ++ w) 65 30 m h)
+    rw (f, e, sets-after (set l 0 65) 1 10 session w s) (filled l (session ++ w) 65 30 m h)
 
 pub login-laid : (l x y z t user password session : List ℕ) (number : ℕ) → length l ≡ 48 → length user ≡ 6 → length password ≡ 10 → length session ≡ 10 → x ≡ sets (set l 0 76) 1 user → y ≡ sets x 7 password → z ≡ sets y 17 session → t ≡ sets z 27 (written number) → set t 47 10 ≡ write (login user password session number)
 login-laid l x y z t user password session number h u p s e f g i =
@@ -41,5 +37,5 @@ login-laid l x y z t user password session number h u p s e f g i =
     let up : length (user ++ password) ≡ 16 = simp length-append (omega arith) in
     let ups : length (user ++ password ++ session) ≡ 26 = simp length-append (omega arith) in
     let m : length (user ++ password ++ session ++ w) ≡ 46 = simp (length-append, length-written) (omega arith) in
-    rw (i, g, f, e, part-after (set l 0 76) 1 6 user password u, part-after (set l 0 76) 1 16 (user ++ password) session up, part-after (set l 0 76) 1 26 (user ++ password ++ session) w ups)
+    rw (i, g, f, e, sets-after (set l 0 76) 1 6 user password u, sets-after (set l 0 76) 1 16 (user ++ password) session up, sets-after (set l 0 76) 1 26 (user ++ password ++ session) w ups)
     (filled l (user ++ password ++ session ++ w) 76 46 m h)

@@ -1,4 +1,3 @@
-pub mod Choices
 pub mod Digits
 pub mod Powers
 pub mod Written

@@ -3,18 +3,18 @@
 use Prim.Native.Nat.{ℕ, zero, suc, _+_, _^_, _≤_, _<_}
 use mathlib.Core.Path.{_≡_, refl, sym}
 use mathlib.Core.List.{List, [], _∷_, _++_}
-use mathlib.Core.Bool.{Bool, true, false, not, _&&_, _||_, and-true}
+use mathlib.Core.Bool.{Bool, true, not, _&&_, _||_, and-true, and-assoc}
 use native.Mathlib.Numerals.{add-one}
 use native.Mathlib.Omega.{arith}
 use lib.Dec.{eqb, leb}
 use lib.ListN.{length, getD, drop, drop-of-length-le}
 use lib.Seq.{drop-cons}
-use borrow.Author.Tests.{ne-eqb, eqb-true, eqb-false, not-true}
-use Rattle.wire.specs.Text.{letterOrDigit, blank, text, textThenSpaces, spacesThenText}
+use borrow.Author.Tests.{ne-eqb, eqb-false, not-true}
+use Rattle.wire.specs.Text.{textThenSpaces, spacesThenText}
 use Rattle.soup.specs.Decimal.{character, places, written}
 use Rattle.soup.specs.Read.{unbroken}
-use Rattle.wire.proofs.Tests.{and-left, and-right}
-use Rattle.soup.proofs.Choices.{by-test}
+use Rattle.wire.proofs.Tests.{by-test, and-left, and-right}
+use Rattle.wire.proofs.Textual.{padded-right, padded-left}
 
 -- no byte is a linefeed
 abbrev pub No-linefeed : List ℕ → Type 0
@@ -44,38 +44,15 @@ append-unbroken (b ∷ s) t u v =
 
 -- ---- texts
 
-letter-not : (b : ℕ) → letterOrDigit b ≡ true → b ≡ 10 → ⊥
-unfolding letterOrDigit
-letter-not b e q = let z : false ≡ true = rw q at e in let w : _≡_ {A = ℕ} 0 1 = cc in omega arith
+-- no character of a text is one
+module _ (s : List ℕ) where
+  pub right-unbroken : textThenSpaces s ≡ true → unbroken s ≡ true
+  unfolding unbroken
+  right-unbroken = padded-right (λ t. unbroken t ≡ true) refl (λ b t low _. more b t (λ e. omega arith)) s
 
-pub blank-unbroken : (s : List ℕ) → blank s ≡ true → unbroken s ≡ true
-unfolding blank unbroken
-blank-unbroken [] e = refl
-blank-unbroken (b ∷ s) e =
-    let q : b ≡ 32 = eqb-true b 32 (and-left (eqb b 32) (blank s) e) in
-    more b s (λ n. omega arith) (blank-unbroken s (and-right (eqb b 32) (blank s) e))
-
-text-unbroken : (s : List ℕ) → text s ≡ true → unbroken s ≡ true
-unfolding text unbroken
-text-unbroken [] e = refl
-text-unbroken (b ∷ s) e =
-    more b s (letter-not b (and-left (letterOrDigit b) (text s) e)) (text-unbroken s (and-right (letterOrDigit b) (text s) e))
-
-pub right-unbroken : (s : List ℕ) → textThenSpaces s ≡ true → unbroken s ≡ true
-unfolding textThenSpaces unbroken
-right-unbroken [] e = refl
-right-unbroken (b ∷ s) e =
-    by-test (letterOrDigit b)
-    (λ t. more b s (letter-not b t) (right-unbroken s (rw t at e)))
-    (λ t. blank-unbroken (b ∷ s) (rw t at e))
-
-pub left-unbroken : (s : List ℕ) → spacesThenText s ≡ true → unbroken s ≡ true
-unfolding spacesThenText unbroken
-left-unbroken [] e = refl
-left-unbroken (b ∷ s) e =
-    by-test (eqb b 32)
-    (λ t. let q : b ≡ 32 = eqb-true b 32 t in more b s (λ n. omega arith) (left-unbroken s (rw t at e)))
-    (λ t. text-unbroken (b ∷ s) (rw t at e))
+  pub left-unbroken : spacesThenText s ≡ true → unbroken s ≡ true
+  unfolding unbroken
+  left-unbroken = padded-left (λ t. unbroken t ≡ true) refl (λ b t low _. more b t (λ e. omega arith)) s
 
 -- ---- numbers
 
@@ -94,10 +71,6 @@ unfolding written
 written-unbroken n = places-unbroken 20 n
 
 -- ---- the search for one, over every byte: w says whether none was seen before place i
-
-and-assoc : (p q r : Bool) → p && q && r ≡ p && (q && r)
-and-assoc true q r = refl
-and-assoc false q r = refl
 
 module _ (s : List ℕ) (i : ℕ) (w : Bool) where
   pub unbroken-step : i < length s → w && not (eqb (getD s i 0) 10) && unbroken (drop (i + 1) s) ≡ w && unbroken (drop i s)

@@ -7,7 +7,7 @@ use mathlib.Core.Bool.{true, false, not}
 use native.Mathlib.Omega.{arith}
 use lib.Dec.{eqb}
 use lib.ListN.{length, getD, take, drop, length-append, length-drop}
-use lib.Seq.{take-at, drop-at, getD-at, take-all, take-suc, take-add, drop-drop, drop-cons, getD-drop, length-take-le}
+use lib.Seq.{take-at, drop-at, getD-at, take-all, take-suc, take-add, drop-drop, drop-cons, getD-drop}
 use Rattle.soup.specs.Packet.{line}
 use Rattle.soup.specs.Read.{last, front, field, payload, unbroken}
 use Rattle.wire.proofs.Tests.{and-right}
@@ -56,9 +56,6 @@ payload-unbroken d h e u =
     and-right (not (eqb k 10)) (unbroken (payload d)) (rw f at u)
 
 -- ---- fields
-
-pub length-field : (i n : ℕ) (d : List ℕ) → i + n ≤ length d → length (field i n d) ≡ n
-length-field i n d h = length-take-le n (drop i d) (rw length-drop (omega arith))
 
 -- two fields side by side are one
 pub fields-join : (i m n : ℕ) (d : List ℕ) → field i (m + n) d ≡ field i m d ++ field (i + m) n d

@@ -10,18 +10,14 @@ use types.Run.{OneOf, miss}
 use denote.Enum.Declared.{tagOf}
 use lib.Dec.{eqb}
 use lib.ListN.{length}
-use lib.Seq.{sets}
 use borrow.Author.Tests.{ne-eqb, eqb-true, eqb-false}
 use Rattle.wire.specs.Checks.{if_then_else_, Verdict, refused, taken, checked}
-use Rattle.wire.specs.Reply.{Reply, Settled, within, settle}
-use Rattle.wire.specs.declared.output.Written.the-variants as Written
-use Rattle.wire.specs.declared.output.Written.the-variants.{Bytes}
+use Rattle.wire.specs.Reply.{within, settle}
 use Rattle.soup.specs.Packet.{Packet, debug, accept, reject, sequenced, serverHeartbeat, endOfSession, login, unsequenced, clientHeartbeat, logout, line, carries}
 use Rattle.soup.specs.Read.{payload, unbroken, lineChecks, byType}
 use Rattle.soup.specs.Reading.{packetOf, readingOf}
 use Rattle.soup.specs.Writing.{sent}
-use Rattle.wire.proofs.Settling.{refuses, writes, no-room, enough-room}
-use Rattle.soup.proofs.Choices.{by-test, either}
+use Rattle.wire.proofs.Tests.{by-test, either}
 use Rattle.soup.proofs.Lines.{length-line, last-line, front-line}
 use Rattle.soup.proofs.Sorting.{overlong, by-type}
 use Rattle.soup.proofs.reading.Reading as Reading-type
@@ -53,15 +49,6 @@ refused-by (taken p) n e = absurd (later p (ap place e))
 pub taken-by : (v : Verdict Packet) (r : Reading) (packet : List ℕ) (room : ℕ) → r ≡ readingOf v → OneOf (1 ∷ 2 ∷ 3 ∷ 4 ∷ 5 ∷ 6 ∷ 7 ∷ 8 ∷ 9 ∷ 10 ∷ []) (place r) → settle v packet room ≡ within room packet
 taken-by (refused n) r packet room e k = absurd (miss (1 ∷ 2 ∷ 3 ∷ 4 ∷ 5 ∷ 6 ∷ 7 ∷ 8 ∷ 9 ∷ 10 ∷ []) 0 tt (rw e at k))
 taken-by (taken p) r packet room e k = refl
-
--- ---- a packet that the room alone decides on
-
-module _ (y : Reply) (packet out : List ℕ) (e : y ≡ within (length out) packet) where
-  pub lacks-room : length out < length packet → Settled y out (Written.Refused 9) out
-  lacks-room h = refuses y out 9 (e ∙ no-room packet (length out) h)
-
-  pub has-room : (left : List ℕ) (n : ℕ) → n ≡ length packet → length packet ≤ length out → left ≡ sets out 0 packet → Settled y out (Bytes n) left
-  has-room left n l h s = writes y out packet left n (e ∙ enough-room packet (length out) h) l h s
 
 -- ---- a payload under its type byte
 

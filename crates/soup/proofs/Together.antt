@@ -1,33 +1,20 @@
 -- Checks that refuse under one number, made together: what the readers of `A` and `L` do.
 -- Assumes nothing.
 use Prim.Native.Nat.{ℕ, _-_, _^_}
-use mathlib.Core.Path.{_≡_, refl, _∙_}
+use mathlib.Core.Path.{_≡_, _∙_}
 use mathlib.Core.List.{List, [], _∷_}
-use mathlib.Core.Bool.{Bool, true, false, not, _&&_, _||_}
+use mathlib.Core.Bool.{true, false, not, _&&_, _||_}
 use native.Mathlib.Omega.{arith}
 use lib.Dec.{leb, eqb}
 use borrow.Author.Tests.{ne-eqb, leb-false}
 use Rattle.wire.specs.Checks.{if_then_else_, _is_, _atMost_, Verdict, taken, refused, Check, _else_, checked}
+use Rattle.wire.proofs.Tests.{by-test}
+use Rattle.wire.proofs.Checks.{checked-both, checked-neither}
 use Rattle.wire.specs.Text.{blank, textThenSpaces, spacesThenText}
 use Rattle.soup.specs.Decimal.{wellFormed, valueOf, numberOf}
 use Rattle.soup.specs.declared.decimal.Number.the-variants.{Over, Is}
 use Rattle.soup.specs.Packet.{Packet, accept, login}
 use Rattle.soup.specs.Read.{acceptOf, loginOf}
-use Rattle.soup.proofs.Choices.{by-test}
-
-module _ {A : Type 0} (n : ℕ) (a b : Bool) (cs : List Check) (v : Verdict A) where
-  both : checked ((a else n) ∷ (b else n) ∷ cs) v ≡ (if a && b then checked cs v else refused n)
-  both = by a where
-    by : (a : Bool) → checked ((a else n) ∷ (b else n) ∷ cs) v ≡ (if a && b then checked cs v else refused n)
-    by true = refl
-    by false = refl
-
-  neither : checked ((not a else n) ∷ (not b else n) ∷ cs) v ≡ (if a || b then refused n else checked cs v)
-  neither = by a b where
-    by : (a b : Bool) → checked ((not a else n) ∷ (not b else n) ∷ cs) v ≡ (if a || b then refused n else checked cs v)
-    by true b = refl
-    by false true = refl
-    by false false = refl
 
 -- the code's number against the bound
 pub over-bound : (v : ℕ) → numberOf v ≡ Over → leb v (2 ^ 64 - 1) ≡ false
@@ -55,7 +42,7 @@ module _ (session number : List ℕ) where
 
   pub accept-together : acceptOf session number ≡ (if spacesThenText session && wellFormed number then acceptFormed else refused 5)
   unfolding acceptOf
-  accept-together = rw (both 5 (spacesThenText session) (wellFormed number), neither 6 (blank session) (blank number))
+  accept-together = rw (checked-both 5 (spacesThenText session) (wellFormed number), checked-neither 6 (blank session) (blank number))
 
 module _ (user password session number : List ℕ) where
   abbrev loginFormed : Verdict Packet
@@ -69,6 +56,6 @@ module _ (user password session number : List ℕ) where
       let s = spacesThenText session in
       let n = wellFormed number in
       let v = taken (login user password session (valueOf number)) in
-      both 5 u p ((s else 5) ∷ (n else 5) ∷ loginValue number) v
-      ∙ both 5 (u && p) s ((n else 5) ∷ loginValue number) v
-      ∙ both 5 (u && p && s) n (loginValue number) v
+      checked-both 5 u p ((s else 5) ∷ (n else 5) ∷ loginValue number) v
+      ∙ checked-both 5 (u && p) s ((n else 5) ∷ loginValue number) v
+      ∙ checked-both 5 (u && p && s) n (loginValue number) v

@@ -15,8 +15,7 @@ use borrow.Author.Tests.{ne-eqb, le-leb, lt-leb, eqb-true, eqb-false, leb-true, 
 use Rattle.wire.specs.Text.{blank}
 use Rattle.wire.proofs.Width.{sets-append}
 use Rattle.soup.specs.Decimal.{digit, digits, trimmed, leadingZero, wellFormed, spelt, valueOf, character, places, written}
-use Rattle.wire.proofs.Tests.{and-left, and-right}
-use Rattle.soup.proofs.Choices.{by-test}
+use Rattle.wire.proofs.Tests.{by-test, and-left, and-right}
 use Rattle.soup.proofs.Digits.{digit-low, digit-high, ten-pos}
 
 length-places : (k n : ℕ) → length (places k n) ≡ k

@@ -1,60 +1,53 @@
 -- The reader takes exactly the lawful packets, with the same bytes and the same fields.
 -- Assumes nothing.
-use Prim.Native.Nat.{ℕ, _+_, _-_, _^_, _≤_, _<_}
-use mathlib.Core.Path.{_≡_, ap, sym, _∙_}
+use Prim.Native.Nat.{ℕ, _+_, _-_, _^_, _≤_}
+use mathlib.Core.Path.{_≡_, ap, _∙_}
 use mathlib.Core.List.{List, [], _∷_}
-use mathlib.Core.Bool.{true, not}
+use mathlib.Core.Bool.{not}
 use native.Mathlib.Omega.{arith}
-use borrow.Author.Tests.{le-leb, leb-true, ne-eqb, eqb-true, not-true}
-use lib.ListN.{length, drop, length-drop, take-append-drop, drop-of-length-le}
-use lib.Seq.{drop-drop, drop-cons, length-take-le}
+use borrow.Author.Tests.{le-leb, leb-true, eqb-true, not-true}
+use lib.ListN.{length, drop, drop-of-length-le}
+use lib.Seq.{drop-cons}
 use Rattle.wire.specs.Fields.{Bytes}
-use Rattle.wire.specs.Checks.{_is_, taken, Passed}
+use Rattle.wire.specs.Checks.{taken, Passed}
 use Rattle.wire.specs.Text.{blank}
+use Rattle.wire.proofs.Tests.{nonzero, not-zero, one-of-test, one-of-fact}
 use Rattle.wire.proofs.Checks.{passed-all}
-use Rattle.wire.proofs.Width.{be-lt, bytes-drop, written-again, written-last}
+use Rattle.wire.proofs.Width.{be-lt, bytes-drop, length-part, part-again, first-again, written-again, written-last}
 use Rattle.blocks.specs.Blocks.{frames, messagesOf}
 use Rattle.blocks.proofs.Frames.{short-frames}
 use Rattle.blocks.proofs.Cutting.{cut-frames, frames-cut}
 use Rattle.ufo.specs.Down.{Packet, accept, reject, messages, end, write, Fit, kind, sessionA, nextA, checksA, reasonJ, checksJ, firstS, countS, blocksS, checksS, totalE, checksE, read}
 use Rattle.blocks.proofs.Counting.{whole-is, count-frames}
-use Rattle.ufo.proofs.DownReason.{reason-check, reason-fact}
 use Rattle.ufo.proofs.DownLaid.{ofAccept, length-laid, laid-accept, laid-reject, laid-messages, laid-end}
-use Rattle.ufo.proofs.DownTaken.{Came, by-A, by-J, by-S, by-E, came, positive}
-
-some : (n : ℕ) → 0 < n → not (n is 0) ≡ true
-some n h = rw (ne-eqb n 0 (λ e. omega arith))
+use Rattle.ufo.proofs.DownTaken.{Came, by-A, by-J, by-S, by-E, came}
 
 pub read-write : (p : Packet) → Fit p → read (write p) ≡ taken p
 read-write (accept session next) f =
     laid-accept session next (f .ten) (omega (arith, f .bound))
-    ∙ passed-all (ofAccept session next) (taken (accept session next)) (f .letters, (ap not (f .named), (some next (f .some), (le-leb next (2 ^ 32 - 1) (f .bound), tt))))
-read-write (reject reason) f = laid-reject reason ∙ rw (reason-check reason f)
+    ∙ passed-all (ofAccept session next) (taken (accept session next)) (f .letters, (ap not (f .named), (not-zero next (f .some), (le-leb next (2 ^ 32 - 1) (f .bound), tt))))
+read-write (reject reason) f = laid-reject reason ∙ rw (one-of-test reason 65 83 f)
 read-write (messages first ms) f =
     let s = frames ms in
     let l : 7 + length s ≤ 1472 = rw (length-laid first (length ms) s) at (f .size) in
     let k = count-frames ms in
     let c = cut-frames ms (short-frames ms (omega arith)) in
     laid-messages first (length ms) s (omega arith) (omega arith)
-    ∙ rw (le-leb (7 + length s) 1472 l, c, some first (f .some), le-leb (first + length ms) (2 ^ 32 - 1) (f .bound))
+    ∙ rw (le-leb (7 + length s) 1472 l, c, not-zero first (f .some), le-leb (first + length ms) (2 ^ 32 - 1) (f .bound))
 read-write (end total) f = laid-end total (omega arith) ∙ rw (le-leb total (2 ^ 32 - 2) f)
 
 module _ (d : List ℕ) (b : Bytes d) where
-  kinded : (n : ℕ) → 0 < length d → kind d ≡ n → n ∷ drop 1 d ≡ d
-  kinded n h e = rw (← e) (sym (drop-cons d 0 0 h))
-
   back-A : kind d ≡ 65 → Passed (checksA d) → Fit (accept (sessionA d) (nextA d)) × (write (accept (sessionA d) (nextA d)) ≡ d)
   back-A k c =
-      let l : length d ≡ 15 = eqb-true (length d) 15 (c .0) in
-      let s : drop 11 d ≡ drop 10 (drop 1 d) = sym (drop-drop 10 1 d) in (
+      let l : length d ≡ 15 = eqb-true (length d) 15 (c .0) in (
         record {
-          ten = length-take-le 10 (drop 1 d) (rw length-drop (omega arith));
+          ten = length-part 1 10 d (omega arith);
           letters = c .1 .0;
           named = not-true (blank (sessionA d)) (c .1 .1 .0);
-          some = positive (nextA d) (c .1 .1 .1 .0);
+          some = nonzero (nextA d) (c .1 .1 .1 .0);
           bound = omega (arith, be-lt 4 (drop 11 d) (bytes-drop 11 d b));
         },
-        rw (written-last 4 11 d b l, s, take-append-drop 10 (drop 1 d)) (kinded 65 (omega arith) k),
+        rw (written-last 4 11 d b l, part-again 1 10 d) (first-again 65 d (omega arith) k),
       )
 
   back-J : kind d ≡ 74 → Passed (checksJ d) → Fit (reject (reasonJ d)) × (write (reject (reasonJ d)) ≡ d)
@@ -62,16 +55,16 @@ module _ (d : List ℕ) (b : Bytes d) where
       let l : length d ≡ 2 = eqb-true (length d) 2 (c .0) in
       let s : drop 1 d ≡ reasonJ d ∷ drop 2 d = drop-cons d 1 0 (omega arith) in
       let n : drop 2 d ≡ [] = drop-of-length-le d {i = 2} (omega arith) in
-      (reason-fact (reasonJ d) (c .1 .0), rw (← n, ← s) (kinded 74 (omega arith) k))
+      (one-of-fact (reasonJ d) 65 83 (c .1 .0), rw (← n, ← s) (first-again 74 d (omega arith) k))
 
   back-S : length d ≤ 1472 → kind d ≡ 83 → Passed (checksS d) → let p = messages (firstS d) (messagesOf (blocksS d)) in Fit p × (write p ≡ d)
   back-S h k c =
       let ms = messagesOf (blocksS d) in
       let l : 7 ≤ length d = leb-true 7 (length d) (c .0) in
       let f = frames-cut (countS d) (drop 7 d) ms (bytes-drop 7 d b) (whole-is (blocksS d) (c .1 .0)) in
-      let w : write (messages (firstS d) ms) ≡ d = rw (f .0, f .1, written-again 2 5 d b (omega arith), written-again 4 1 d b (omega arith)) (kinded 83 (omega arith) k) in (
+      let w : write (messages (firstS d) ms) ≡ d = rw (f .0, f .1, written-again 2 5 d b (omega arith), written-again 4 1 d b (omega arith)) (first-again 83 d (omega arith) k) in (
         record {
-          some = positive (firstS d) (c .1 .1 .0);
+          some = nonzero (firstS d) (c .1 .1 .0);
           bound = rw (f .1) (leb-true (firstS d + countS d) (2 ^ 32 - 1) (c .1 .1 .1 .0));
           bytes = f .2;
           size = omega (arith, ap length w);
@@ -82,7 +75,7 @@ module _ (d : List ℕ) (b : Bytes d) where
   back-E : kind d ≡ 69 → Passed (checksE d) → Fit (end (totalE d)) × (write (end (totalE d)) ≡ d)
   back-E k c =
       let l : length d ≡ 5 = eqb-true (length d) 5 (c .0) in
-      (leb-true (totalE d) (2 ^ 32 - 2) (c .1 .0), rw (written-last 4 1 d b l) (kinded 69 (omega arith) k))
+      (leb-true (totalE d) (2 ^ 32 - 2) (c .1 .0), rw (written-last 4 1 d b l) (first-again 69 d (omega arith) k))
 
   pub write-read : (p : Packet) → read d ≡ taken p → Fit p × (write p ≡ d)
   write-read p e = let c = came d p e in by (leb-true (length d) 1472 (c .0 .1 .0)) (c .1) where

@@ -11,9 +11,8 @@ use lib.Seq.{take-at, drop-at, sets}
 use Rattle.wire.specs.Fields.{bytesOf}
 use Rattle.wire.specs.Checks.{_is_, _atMost_, Check, _else_, checked, taken}
 use Rattle.wire.specs.Text.{blank, textThenSpaces}
-use Rattle.wire.proofs.Width.{be-bytesOf, length-bytesOf}
+use Rattle.wire.proofs.Width.{be-bytesOf, be-last, length-bytesOf}
 use Rattle.blocks.specs.Blocks.{cut, isWhole, messagesOf}
-use Rattle.ufo.proofs.DownWire.{be-last}
 use Rattle.ufo.specs.Down.{accept, reject, messages, end, laid, write, readA, readJ, readS, readE, read}
 
 abbrev pub ofAccept : List ℕ → ℕ → List Check

@@ -11,12 +11,12 @@ use Rattle.wire.specs.Fields.{bytesOf, Bytes}
 use Rattle.wire.specs.Checks.{taken}
 use Rattle.wire.specs.Reply.{Reply, within}
 use Rattle.wire.proofs.Settling.{enough-room}
-use Rattle.wire.proofs.Width.{bytes-bytesOf}
+use Rattle.wire.proofs.Textual.{text-bytes}
+use Rattle.wire.proofs.Width.{bytes-bytesOf, bytes-cons, bytes-append}
 use Rattle.blocks.specs.Blocks.{frames}
-use Rattle.blocks.proofs.Frames.{bytes-append, bytes-frames}
+use Rattle.blocks.proofs.Frames.{bytes-frames}
 use Rattle.ufo.specs.Down.{Packet, accept, reject, messages, end, write, Fit, read}
 use Rattle.ufo.specs.WriteDown.{reply, acceptReply, rejectReply, messagesReply, endReply}
-use Rattle.ufo.proofs.DownWire.{bytes-cons, text-bytes}
 use Rattle.ufo.proofs.DownExact.{read-write}
 
 pub bytes-write : (p : Packet) → Fit p → Bytes (write p)

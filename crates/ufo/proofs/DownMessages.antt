@@ -3,17 +3,17 @@
 use Prim.Native.Nat.{ℕ, _+_, _-_, _^_, _≤_, _<_}
 use mathlib.Core.Path.{_≡_, ap, sym, _∙_}
 use mathlib.Core.List.{List}
-use native.Mathlib.Omega.{arith}
 use borrow.Author.Tests.{leb-true}
 use lib.ListN.{length, drop}
 use Rattle.wire.specs.Fields.{Bytes}
 use Rattle.wire.specs.Checks.{taken}
+use Rattle.wire.proofs.Tests.{impossible, nonzero}
 use Rattle.wire.proofs.Width.{bytes-drop}
 use Rattle.blocks.specs.Blocks.{frames, whole, cut, messagesOf}
 use Rattle.blocks.proofs.Cutting.{frames-cut}
 use Rattle.ufo.specs.Down.{messages, end, firstS, countS, blocksS, totalE, read}
 use Rattle.blocks.proofs.Counting.{whole-is, count-cut}
-use Rattle.ufo.proofs.DownTaken.{Came, by-A, by-J, by-S, by-E, came, positive}
+use Rattle.ufo.proofs.DownTaken.{Came, by-A, by-J, by-S, by-E, came}
 
 pub record Carries (d : List ℕ) (first : ℕ) (ms : List (List ℕ)) : Type 0 where
   pub size : length d ≤ 1472
@@ -23,19 +23,13 @@ pub record Carries (d : List ℕ) (first : ℕ) (ms : List (List ℕ)) : Type 0 
   pub some : 0 < first
   pub bound : first + length ms ≤ 2 ^ 32 - 1
 
--- a packet of one type is none of another
-never : {C : Type 0} → _≡_ {A = ℕ} 0 1 → C
-never z = absurd (differ z) where
-  differ : _≡_ {A = ℕ} 0 1 → ⊥
-  differ z = omega arith
-
 module _ (d : List ℕ) (first : ℕ) (ms : List (List ℕ)) where
   pub carries : read d ≡ taken (messages first ms) → Carries d first ms
   carries e = let c = came d (messages first ms) e in by (leb-true (length d) 1472 (c .0 .1 .0)) (c .1) where
     by : length d ≤ 1472 → Came d (messages first ms) → Carries d first ms
-    by h (by-A k c q) = never (cc)
-    by h (by-J k c q) = never (cc)
-    by h (by-E k c q) = never (cc)
+    by h (by-A k c q) = impossible cc
+    by h (by-J k c q) = impossible cc
+    by h (by-E k c q) = impossible cc
     by h (by-S k c q) =
         let f : firstS d ≡ first = cc in
         let m : messagesOf (blocksS d) ≡ ms = cc in
@@ -45,7 +39,7 @@ module _ (d : List ℕ) (first : ℕ) (ms : List (List ℕ)) where
           header = leb-true 7 (length d) (c .0);
           number = f;
           blocks = rw (← n, ← m) (whole-is (blocksS d) (c .1 .0));
-          some = rw (← f) (positive (firstS d) (c .1 .1 .0));
+          some = rw (← f) (nonzero (firstS d) (c .1 .1 .0));
           bound = rw (← f, ← n) (leb-true (firstS d + countS d) (2 ^ 32 - 1) (c .1 .1 .1 .0));
         }
 
@@ -55,7 +49,7 @@ module _ (d : List ℕ) (first : ℕ) (ms : List (List ℕ)) where
 pub ended : (d : List ℕ) (total : ℕ) → read d ≡ taken (end total) → total ≤ 2 ^ 32 - 2
 ended d total e = by (came d (end total) e .1) where
   by : Came d (end total) → total ≤ 2 ^ 32 - 2
-  by (by-A k c q) = never (cc)
-  by (by-J k c q) = never (cc)
-  by (by-S k c q) = never (cc)
+  by (by-A k c q) = impossible cc
+  by (by-J k c q) = impossible cc
+  by (by-S k c q) = impossible cc
   by (by-E k c q) = let t : totalE d ≡ total = cc in rw (← t) (leb-true (totalE d) (2 ^ 32 - 2) (c .1 .0))

@@ -5,7 +5,8 @@ use mathlib.Core.Path.{_≡_, refl}
 use mathlib.Core.List.{List, _++_}
 use mathlib.Core.Bool.{true}
 use Rattle.wire.specs.Checks.{ordered}
-use Rattle.ufo.specs.Down.{opening, checksA, checksJ, checksS, checksE}
+use Rattle.wire.specs.Datagram.{opening}
+use Rattle.ufo.specs.Down.{checksA, checksJ, checksS, checksE}
 
 module _ (d : List ℕ) where
   pub ordered-A : ordered (opening d ++ checksA d) ≡ true

@@ -10,11 +10,12 @@ use lib.ListN.{length}
 use lib.Dec.{leb}
 use Rattle.wire.specs.Checks.{if_then_else_, Check, checked, Verdict, refused, taken, _into_}
 use Rattle.wire.specs.Reply.{Reply, within, settle}
-use Rattle.wire.proofs.Settling.{enough-room}
+use Rattle.wire.proofs.Tests.{by-test}
+use Rattle.wire.proofs.Checks.{through}
+use Rattle.wire.proofs.Settling.{enough-room, settle-checked}
 use Rattle.blocks.specs.Blocks.{cut, isWhole, messagesOf}
 use Rattle.ufo.specs.Down.{Packet, accept, reject, messages, end, laid, write, read}
 use Rattle.ufo.specs.WriteDown.{reply, acceptReply, rejectReply, messagesReply, endReply}
-use Rattle.ufo.proofs.DownWire.{through}
 use Rattle.ufo.proofs.DownLaid.{ofAccept, ofReject, ofMessages, ofEnd, length-laid, laid-accept, laid-reject, laid-messages, laid-end}
 
 -- the checks of a packet with a number, of which those at the highest number refuse whatever is more
@@ -23,13 +24,13 @@ module _ (lay : ℕ → List ℕ) (cs : ℕ → List Check) (p : ℕ → Packet)
   after held v = settle (v into (λ a. if held then taken a else refused 7)) (lay n) room
 
   numbered : (2 ^ 32 - 1 < n → checked (cs (2 ^ 32 - 1)) (refused 7) ≡ checked (cs n) (within room (lay n))) → reply lay n room ≡ checked (cs n) (within room (lay n))
-  numbered above = by (leb n (2 ^ 32 - 1)) refl where
-    by : (b : Bool) → leb n (2 ^ 32 - 1) ≡ b → reply lay n room ≡ checked (cs n) (within room (lay n))
-    by true q =
-        let h = leb-true n (2 ^ 32 - 1) q in
-        rw (q, reads n (omega arith)) (through (after true) (λ k. refl) (cs n) (taken (p n)))
-    by false q =
-        rw (q, reads (2 ^ 32 - 1) (omega arith)) (through (after false) (λ k. refl) (cs (2 ^ 32 - 1)) (taken (p (2 ^ 32 - 1))) ∙ above (leb-false n (2 ^ 32 - 1) q))
+  numbered above =
+      by-test (leb n (2 ^ 32 - 1))
+      (λ q.
+      let h = leb-true n (2 ^ 32 - 1) q in
+      rw (q, reads n (omega arith)) (through (after true) (λ k. refl) (cs n) (taken (p n))))
+      (λ q.
+      rw (q, reads (2 ^ 32 - 1) (omega arith)) (through (after false) (λ k. refl) (cs (2 ^ 32 - 1)) (taken (p (2 ^ 32 - 1))) ∙ above (leb-false n (2 ^ 32 - 1) q)))
 
 pub accept-reply : (session : List ℕ) (next room : ℕ) → length session ≡ 10 → acceptReply session next room ≡ checked (ofAccept session next) (within room (write (accept session next)))
 unfolding acceptReply
@@ -38,7 +39,8 @@ accept-reply session next room l =
 
 pub reject-reply : (reason room : ℕ) → rejectReply reason room ≡ checked (ofReject reason) (within room (write (reject reason)))
 unfolding rejectReply
-reject-reply reason room = rw (laid-reject reason) (through (λ v. settle v (write (reject reason)) room) (λ k. refl) (ofReject reason) (taken (reject reason)))
+reject-reply reason room =
+    rw (laid-reject reason) (settle-checked (ofReject reason) (taken (reject reason)) (write (reject reason)) room)
 
 pub messages-reply : (first count : ℕ) (blocks : List ℕ) (room : ℕ) → count < 2 ^ 16 → messagesReply first count blocks room ≡ checked (ofMessages first count blocks) (within room (laid first count blocks))
 unfolding messagesReply

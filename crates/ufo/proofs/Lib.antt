@@ -1,5 +1,3 @@
-pub mod DownWire
-pub mod DownReason
 pub mod DownOrder
 pub mod DownLaid
 pub mod DownTaken
@@ -8,8 +6,6 @@ pub mod DownMessages
 pub mod DownView
 pub mod DownReplies
 pub mod DownLawful
-pub mod UpChecks
-pub mod UpPlaces
 pub mod UpMessage
 pub mod UpWalk
 pub mod UpPacket

@@ -1,19 +1,20 @@
 -- Exactly the lawful packets are taken: reading what was written gives the messages, and writing what was read the bytes.
 -- Assumes nothing.
-use Prim.Native.Nat.{ℕ, suc, _≤_, _<_}
-use mathlib.Core.List.{List, [], _∷_, map, append-nil}
+use Prim.Native.Nat.{ℕ, _≤_, _<_}
+use mathlib.Core.List.{List, [], _∷_, map}
 use mathlib.Core.Path.{_≡_, refl, ap, sym, _∙_}
 use mathlib.Core.Bool.{true}
 use native.Mathlib.Omega.{arith}
 use borrow.Author.Tests.{leb-true}
-use lib.ListN.{length}
+use lib.ListN.{length, length-map}
 use Rattle.wire.specs.Fields.{Bytes}
 use Rattle.wire.specs.Checks.{Verdict, refused, taken, ordered}
+use Rattle.wire.specs.Datagram.{opening}
 use Rattle.wire.proofs.Checks.{all-passed, not-both}
 use Rattle.blocks.specs.Blocks.{frame, frames, Cut, torn, whole, upstream, Each, Short, Full}
-use Rattle.blocks.proofs.Frames.{length-frame, length-frames, short-frames}
+use Rattle.blocks.proofs.Frames.{length-frames, frames-one, length-one, short-frames}
 use Rattle.blocks.proofs.Cutting.{upstream-frames, frames-upstream}
-use Rattle.ufo.specs.Up.{Message, writeMessage, writeUp, FitMessage, FitAll, Fit, readMessage, readEach, readCut, opening, readUp}
+use Rattle.ufo.specs.Up.{Message, writeMessage, writeUp, FitMessage, FitAll, Fit, readMessage, readEach, readCut, readUp}
 use Rattle.ufo.proofs.UpPacket.{opened}
 use Rattle.ufo.proofs.UpExactOne.{full-message, length-message, read-message, write-message}
 
@@ -30,10 +31,6 @@ pub full-messages : (ms : List Message) → Each Full (map writeMessage ms)
 full-messages [] = tt
 full-messages (m ∷ ms) = (full-message m, full-messages ms)
 
-length-map : (ms : List Message) → length (map writeMessage ms) ≡ length ms
-length-map [] = refl
-length-map (m ∷ ms) = ap suc (length-map ms)
-
 not-empty : (ms : List Message) → 0 < length ms → length (writeUp ms) ≡ 0 → ⊥
 not-empty [] h e = omega arith
 not-empty (m ∷ ms) h e = omega (arith, length-frames (writeMessage m) (map writeMessage ms))
@@ -42,7 +39,7 @@ pub read-write : (ms : List Message) → Fit ms → readUp (writeUp ms) ≡ take
 read-write ms f =
     let bs = map writeMessage ms in
     let s : Each Short bs = short-frames bs (omega (arith, f .short)) in
-    let u : upstream (frames bs) ≡ whole bs = upstream-frames bs (rw length-map (f .some)) s (full-messages ms) in
+    let u : upstream (frames bs) ≡ whole bs = upstream-frames bs (rw (length-map ms writeMessage) (f .some)) s (full-messages ms) in
     opened (frames bs) (not-empty ms (f .some)) (f .short) ∙ ap readCut u ∙ read-each ms (f .all)
 
 -- writing what was read
@@ -71,17 +68,13 @@ write-read d b ms e =
           let f = frames-upstream d bs b u in
           let w = write-each bs (f .3) ms r in
           let same : writeUp ms ≡ d = ap frames (w .1) ∙ f .0 in
-          let n : length ms ≡ length bs = sym (length-map ms) ∙ ap length (w .1) in
+          let n : length ms ≡ length bs = sym (length-map ms writeMessage) ∙ ap length (w .1) in
           (record { some = omega (arith, f .1); all = w .0; short = rw same l }, same)
 
 -- a packet of one lawful message
-pub write-one : (m : Message) → writeUp (m ∷ []) ≡ frame (writeMessage m)
-unfolding frames
-write-one m = append-nil (frame (writeMessage m))
-
 pub fit-one : (m : Message) → FitMessage m → Fit (m ∷ [])
 fit-one m f =
-    record { some = omega arith; all = (f, tt); short = rw (write-one m, length-frame (writeMessage m)) (omega (arith, length-message m f)) }
+    record { some = omega arith; all = (f, tt); short = rw (length-one (writeMessage m)) (omega (arith, length-message m f)) }
 
 pub read-one : (m : Message) → FitMessage m → readUp (frame (writeMessage m)) ≡ taken (m ∷ [])
-read-one m f = rw (← write-one m) (read-write (m ∷ []) (fit-one m f))
+read-one m f = rw (← frames-one (writeMessage m)) (read-write (m ∷ []) (fit-one m f))

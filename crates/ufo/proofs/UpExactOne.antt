@@ -1,18 +1,19 @@
 -- One message: a lawful one is read from what was written, and what is read is lawful and writes the same bytes.
 -- Assumes nothing.
-use Prim.Native.Nat.{ℕ, _+_, _^_, _≤_, _<_}
-use mathlib.Core.List.{List, [], _∷_, _++_, append-nil, append-assoc}
+use Prim.Native.Nat.{ℕ, _^_, _≤_, _<_}
+use mathlib.Core.List.{List, [], _∷_, _++_, append-assoc}
 use mathlib.Core.Path.{_≡_, refl, ap, sym, _∙_}
-use mathlib.Core.Bool.{Bool, true, false, not}
+use mathlib.Core.Bool.{true, not}
 use native.Mathlib.Omega.{arith}
-use borrow.Author.Tests.{le-leb, eq-eqb, ne-eqb, leb-true, eqb-true, eqb-false, not-true}
-use lib.ListN.{length, take, drop, length-append, length-drop, take-append-drop, drop-of-length-le}
-use lib.Seq.{take-at, drop-at, take-all, drop-drop, length-take-le}
+use borrow.Author.Tests.{le-leb, eq-eqb, ne-eqb, leb-true, eqb-true}
+use lib.ListN.{length, drop, length-append, length-drop, drop-of-length-le}
+use lib.Seq.{take-at, drop-at, take-all}
 use Rattle.wire.specs.Fields.{bytesOf, Bytes}
-use Rattle.wire.specs.Checks.{if_then_else_, _is_, Verdict, refused, taken, Check, _else_, checked, ordered}
+use Rattle.wire.specs.Checks.{_is_, refused, taken, Check, _else_, checked, Passed, ordered}
 use Rattle.wire.specs.Text.{textThenSpaces}
-use Rattle.wire.proofs.Width.{be-bytesOf, be-lt, bytes-drop, length-bytesOf, written-again, written-last}
-use Rattle.wire.proofs.Checks.{all-passed, not-both}
+use Rattle.wire.proofs.Tests.{nonzero}
+use Rattle.wire.proofs.Width.{be-bytesOf, be-last, be-lt, bytes-drop, length-bytesOf, length-part, part-again, first-again, written-again, written-last}
+use Rattle.wire.proofs.Checks.{not-both, came-by}
 use Rattle.ufo.specs.Up.{Message, login, request, unsequenced, heartbeat, logout, writeMessage, FitMessage, kind, userL, passwordL, sessionL, firstT, countT, checksL, checksT, checksU, checksAlone, readL, readT, readU, readAlone, readMessage}
 use Rattle.ufo.proofs.UpMessage.{is-L, is-T, is-U, is-R, is-O}
 
@@ -68,8 +69,7 @@ checks-request n c hn hc =
     let m = writeMessage (request n c) in
     let l : length m ≡ 7 = simp (length-append, length-bytesOf) refl in
     let a : firstT m ≡ n = be-bytesOf 4 n (bytesOf 2 c) hn in
-    let d : drop 5 m ≡ bytesOf 2 c ++ [] = rw append-nil (drop-at (bytesOf 4 n) (bytesOf 2 c) 4 (length-bytesOf 4 n)) in
-    let b : countT m ≡ c = rw d (be-bytesOf 2 c [] hc) in
+    let b : countT m ≡ c = rw (drop-at (bytesOf 4 n) (bytesOf 2 c) 4 (length-bytesOf 4 n)) (be-last 2 c hc) in
     is-T m refl ∙ rw (eq-eqb (length m) 7 l, a, b)
 
 pub read-unsequenced : (b : List ℕ) → length b ≤ 1469 → readMessage (writeMessage (unsequenced b)) ≡ taken (unsequenced b)
@@ -87,81 +87,51 @@ read-message heartbeat f = is-R (82 ∷ []) refl
 read-message logout f = is-O (79 ∷ []) refl
 
 -- writing what was read
-kinded : (s : List ℕ) (n : ℕ) → 0 < n → kind s ≡ n → n ∷ drop 1 s ≡ s
-kinded [] n h e = absurd (none n h e) where
-  none : (n : ℕ) → 0 < n → 0 ≡ n → ⊥
-  none n h e = omega arith
-kinded (x ∷ s) n h e = ap (λ (y : ℕ). y ∷ s) (sym e)
-
--- a part before what follows it
-part : (n i : ℕ) (s : List ℕ) → take n (drop i s) ++ drop (i + n) s ≡ drop i s
-part n i s = rw (← drop-drop n i s) (take-append-drop n (drop i s))
-
 module _ (s : List ℕ) (b : Bytes s) (m : Message) where
-  written-L : kind s ≡ 76 → readL s ≡ taken m → FitMessage m × (writeMessage m ≡ s)
-  unfolding readL
-  written-L k e =
-      let p = all-passed (checksL s) (taken (login (userL s) (passwordL s) (sessionL s))) m e in
-      let q : login (userL s) (passwordL s) (sessionL s) ≡ m = cc (p .1) in
-      let l : length s ≡ 27 = eqb-true (length s) 27 (p .0 .0) in
+  written-L : kind s ≡ 76 → Passed (checksL s) → login (userL s) (passwordL s) (sessionL s) ≡ m → FitMessage m × (writeMessage m ≡ s)
+  written-L k p q =
+      let l : length s ≡ 27 = eqb-true (length s) 27 (p .0) in
       let last : sessionL s ≡ drop 17 s = take-all 10 (drop 17 s) (rw length-drop (omega arith)) in
       rw (← q) (
         (
-          (length-take-le 6 (drop 1 s) (rw length-drop (omega arith)), p .0 .1 .0),
-          (length-take-le 10 (drop 7 s) (rw length-drop (omega arith)), p .0 .1 .1 .0),
-          (length-take-le 10 (drop 17 s) (rw length-drop (omega arith)), p .0 .1 .1 .1 .0),
+          (length-part 1 6 s (omega arith), p .1 .0),
+          (length-part 7 10 s (omega arith), p .1 .1 .0),
+          (length-part 17 10 s (omega arith), p .1 .1 .1 .0),
         ),
-        rw (last, part 10 7 s, part 6 1 s) (kinded s 76 (omega arith) k),
+        rw (last, part-again 7 10 s, part-again 1 6 s) (first-again 76 s (omega arith) k),
       )
 
-  written-T : kind s ≡ 84 → readT s ≡ taken m → FitMessage m × (writeMessage m ≡ s)
-  unfolding readT
-  written-T k e =
-      let p = all-passed (checksT s) (taken (request (firstT s) (countT s))) m e in
-      let q : request (firstT s) (countT s) ≡ m = cc (p .1) in
-      let l : length s ≡ 7 = eqb-true (length s) 7 (p .0 .0) in
-      let n = eqb-false (firstT s) 0 (not-true (firstT s is 0) (p .0 .1 .0)) in
-      let c = eqb-false (countT s) 0 (not-true (countT s is 0) (p .0 .1 .1 .0)) in
+  written-T : kind s ≡ 84 → Passed (checksT s) → request (firstT s) (countT s) ≡ m → FitMessage m × (writeMessage m ≡ s)
+  written-T k p q =
+      let l : length s ≡ 7 = eqb-true (length s) 7 (p .0) in
       rw (← q) (
         (
-          positive (firstT s) n,
+          nonzero (firstT s) (p .1 .0),
           be-lt 4 (drop 1 s) (bytes-drop 1 s b),
-          positive (countT s) c,
+          nonzero (countT s) (p .1 .1 .0),
           be-lt 2 (drop 5 s) (bytes-drop 5 s b),
         ),
-        rw (written-last 2 5 s b l, written-again 4 1 s b (omega arith)) (kinded s 84 (omega arith) k),
-      ) where
-        positive : (k : ℕ) → (k ≡ 0 → ⊥) → 0 < k
-        positive k h = omega arith
+        rw (written-last 2 5 s b l, written-again 4 1 s b (omega arith)) (first-again 84 s (omega arith) k),
+      )
 
-  written-U : kind s ≡ 85 → readU s ≡ taken m → FitMessage m × (writeMessage m ≡ s)
-  unfolding readU
-  written-U k e =
-      let p = all-passed (checksU s) (taken (unsequenced (drop 1 s))) m e in
-      let q : unsequenced (drop 1 s) ≡ m = cc (p .1) in
-      let l = leb-true (length s) 1470 (p .0 .0) in
-      rw (← q) ((bytes-drop 1 s b, rw length-drop (omega arith)), kinded s 85 (omega arith) k)
+  written-U : kind s ≡ 85 → Passed (checksU s) → unsequenced (drop 1 s) ≡ m → FitMessage m × (writeMessage m ≡ s)
+  written-U k p q =
+      let l = leb-true (length s) 1470 (p .0) in
+      rw (← q) ((bytes-drop 1 s b, rw length-drop (omega arith)), first-again 85 s (omega arith) k)
 
-  written-alone : (said : Message) (n : ℕ) → FitMessage said → writeMessage said ≡ n ∷ [] → 0 < n → kind s ≡ n → readAlone said s ≡ taken m → FitMessage m × (writeMessage m ≡ s)
-  unfolding readAlone
-  written-alone said n f w h k e =
-      let p = all-passed (checksAlone s) (taken said) m e in
-      let q : said ≡ m = cc (p .1) in
-      let l : length s ≡ 1 = eqb-true (length s) 1 (p .0 .0) in
+  written-alone : (said : Message) (n : ℕ) → FitMessage said → writeMessage said ≡ n ∷ [] → 0 < n → kind s ≡ n → Passed (checksAlone s) → said ≡ m → FitMessage m × (writeMessage m ≡ s)
+  written-alone said n f w h k p q =
+      let l : length s ≡ 1 = eqb-true (length s) 1 (p .0) in
       let none : drop 1 s ≡ [] = drop-of-length-le s {i = 1} (omega arith) in
-      rw (← q) (f, w ∙ ap (λ (t : List ℕ). n ∷ t) (sym none) ∙ kinded s n h k)
-
--- one of two ways
-either : {C : Type 0} (t : Bool) (x y v : Verdict Message) → (t ≡ true → x ≡ v → C) → (t ≡ false → y ≡ v → C) → if t then x else y ≡ v → C
-either true x y v f g e = f refl e
-either false x y v f g e = g refl e
+      rw (← q) (f, w ∙ ap (λ (t : List ℕ). n ∷ t) (sym none) ∙ first-again n s h k)
 
 pub write-message : (s : List ℕ) → Bytes s → (m : Message) → readMessage s ≡ taken m → FitMessage m × (writeMessage m ≡ s)
-unfolding readMessage
+unfolding readMessage readL readT readU readAlone
 write-message s b m =
-    either (kind s is 76) _ _ (taken m) (λ k. written-L s b m (eqb-true (kind s) 76 k)) (λ _.
-    either (kind s is 84) _ _ (taken m) (λ k. written-T s b m (eqb-true (kind s) 84 k)) (λ _.
-    either (kind s is 85) _ _ (taken m) (λ k. written-U s b m (eqb-true (kind s) 85 k)) (λ _.
-    either (kind s is 82) _ _ (taken m) (λ k. written-alone s b m heartbeat 82 tt refl (omega arith) (eqb-true (kind s) 82 k)) (λ _.
-    either (kind s is 79) _ _ (taken m) (λ k. written-alone s b m logout 79 tt refl (omega arith) (eqb-true (kind s) 79 k)) (λ _ e.
-    not-both (refused 3) 3 m refl e)))))
+    let k = kind s in
+    came-by k 76 (checksL s) _ m _ (written-L s b m)
+    (came-by k 84 (checksT s) _ m _ (written-T s b m)
+    (came-by k 85 (checksU s) _ m _ (written-U s b m)
+    (came-by k 82 (checksAlone s) _ m _ (written-alone s b m heartbeat 82 tt refl (omega arith))
+    (came-by k 79 (checksAlone s) _ m _ (written-alone s b m logout 79 tt refl (omega arith))
+    (not-both (refused 3) 3 m refl)))))

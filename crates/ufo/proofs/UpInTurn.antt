@@ -1,27 +1,26 @@
 -- In a packet that is taken each message is read at the place where those before it end, up to the packet's end.
 -- Assumes nothing.
 use Prim.Native.Nat.{ℕ, suc, _+_, _<_}
-use mathlib.Core.List.{List, [], _∷_, _++_, map}
-use mathlib.Core.Path.{_≡_, refl, ap, sym, _∙_}
+use mathlib.Core.List.{List, [], _∷_, _++_, map, map-append}
+use mathlib.Core.Path.{_≡_, ap, sym, _∙_}
 use native.Mathlib.Omega.{arith}
 use lib.ListN.{length, take, drop, getD, length-append}
 use lib.Seq.{split-at, take-suc}
 use Rattle.wire.specs.Fields.{Bytes}
 use Rattle.wire.specs.Checks.{taken}
+use Rattle.wire.specs.Datagram.{opening}
 use Rattle.wire.proofs.Checks.{all-passed, passed-all}
 use Rattle.blocks.specs.Blocks.{frame, frames, endAt, upstream, Short}
-use Rattle.blocks.proofs.Frames.{length-frame, frames-append}
+use Rattle.blocks.proofs.Frames.{length-frame, frames-one, frames-append}
 use Rattle.blocks.proofs.Skipping.{end-framed}
-use Rattle.ufo.specs.Up.{Message, heartbeat, writeMessage, writeUp, FitMessage, FitAll, opening, readCut, readUp, messageAt, messageIn}
+use Rattle.ufo.specs.Up.{Message, heartbeat, writeMessage, writeUp, FitMessage, FitAll, readCut, readUp, messageAt, messageIn}
 use Rattle.ufo.proofs.UpWalk.{framed-at}
 use Rattle.ufo.proofs.UpExactOne.{full-message, length-message, read-message}
-use Rattle.ufo.proofs.UpExact.{write-one, write-read}
+use Rattle.ufo.proofs.UpExact.{write-read}
 
 write-append : (a b : List Message) → writeUp (a ++ b) ≡ writeUp a ++ writeUp b
-write-append a b = ap frames (mapped a) ∙ frames-append (map writeMessage a) (map writeMessage b) where
-  mapped : (a : List Message) → map writeMessage (a ++ b) ≡ map writeMessage a ++ map writeMessage b
-  mapped [] = refl
-  mapped (m ∷ a) = ap (λ (t : List (List ℕ)). writeMessage m ∷ t) (mapped a)
+write-append a b =
+    ap frames (map-append writeMessage a b) ∙ frames-append (map writeMessage a) (map writeMessage b)
 
 fit-there : (a : List Message) (m : Message) (b : List Message) → FitAll (a ++ (m ∷ b)) → FitMessage m
 fit-there [] m b f = f .0
@@ -29,7 +28,7 @@ fit-there (x ∷ a) m b f = fit-there a m b (f .1)
 
 length-more : (a : List Message) (m : Message) → length (writeUp (a ++ (m ∷ []))) ≡ length (writeUp a) + 2 + length (writeMessage m)
 length-more a m =
-    rw (write-append a (m ∷ []), write-one m, length-append) (omega (arith, length-frame (writeMessage m)))
+    rw (write-append a (m ∷ []), frames-one (writeMessage m), length-append) (omega (arith, length-frame (writeMessage m)))
 
 module _ (d : List ℕ) (bytes : Bytes d) where
   pub read-there : (a : List Message) (m : Message) (b : List Message) → readUp d ≡ taken (a ++ (m ∷ b)) → (messageAt d (length (writeUp a)) ≡ taken m) × (endAt d (length (writeUp a)) ≡ length (writeUp (a ++ (m ∷ []))))

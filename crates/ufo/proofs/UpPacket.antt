@@ -19,10 +19,6 @@ pub torn-count : (q : Cut) (n : ℕ) → countOf q ≡ count.Refused n → packe
 torn-count torn n e = cc
 torn-count (whole ms) n e = cc
 
-pub whole-count : (q : Cut) (n : ℕ) → countOf q ≡ count.Blocks n → isWhole q ≡ true
-whole-count torn n e = cc
-whole-count (whole ms) n e = refl
-
 pub whole-read : (q : Cut) → isWhole q ≡ true → readCut q ≡ readEach (messagesOf q)
 whole-read torn w = absurd (true≢false (sym w))
 whole-read (whole ms) w = refl

@@ -1,32 +1,34 @@
 -- What a writer's reply is, by the message's fields: the checks that are left of the reader's, then the room.
 -- Assumes nothing.
 use Prim.Native.Nat.{ℕ, _^_, _≤_, _<_, min}
-use mathlib.Core.List.{List, [], _∷_, append-nil}
+use mathlib.Core.List.{List, [], _∷_}
 use mathlib.Core.Path.{_≡_, refl, ap, _∙_}
-use mathlib.Core.Bool.{Bool, true, false}
+use mathlib.Core.Bool.{true}
 use native.Mathlib.Omega.{arith}
 use borrow.Author.Tests.{le-leb, lt-leb, eq-eqb, ne-eqb, leb-true, leb-false, eqb-true, eqb-false}
 use lib.ListN.{length, length-append}
 use lib.Dec.{leb, eqb}
-use Rattle.wire.specs.Checks.{if_then_else_, _is_, _atMost_, refused, taken, Check, _else_, checked}
+use Rattle.wire.specs.Checks.{_is_, _atMost_, taken, Check, _else_, checked}
 use Rattle.wire.specs.Reply.{within}
+use Rattle.wire.proofs.Tests.{by-test}
+use Rattle.wire.proofs.Checks.{into-checked}
+use Rattle.wire.proofs.Settling.{settle-checked}
 use Rattle.wire.proofs.Width.{length-bytesOf}
-use Rattle.blocks.specs.Blocks.{frame, frames, whole, upstream}
-use Rattle.blocks.proofs.Frames.{length-frame}
+use Rattle.blocks.specs.Blocks.{frame, whole, upstream}
+use Rattle.blocks.proofs.Frames.{length-frame, frames-one}
 use Rattle.blocks.proofs.Cutting.{upstream-frames}
 use Rattle.ufo.specs.Up.{Message, login, request, unsequenced, heartbeat, logout, writeMessage, FitMessage, readMessage, readEach, readCut, readUp}
 use Rattle.ufo.specs.WriteUp.{capped, held, verdict, reply}
-use Rattle.ufo.proofs.UpChecks.{settle-checked, into-checked}
 use Rattle.ufo.proofs.UpPacket.{opened}
 use Rattle.ufo.proofs.UpExactOne.{full-message, length-message, leftL, leftT, checks-login, checks-request, read-unsequenced, read-message}
 
 -- the packet that holds one message, if the checks cs are left of it
 read-framed : (cs : List Check) (m : Message) → length (writeMessage m) ≤ 1470 → readMessage (writeMessage m) ≡ checked cs (taken m) → readUp (frame (writeMessage m)) ≡ checked cs (taken (m ∷ []))
-unfolding readEach frames
+unfolding readEach
 read-framed cs m l e =
     let b = writeMessage m in
     let n = length-frame b in
-    let u : upstream (frame b) ≡ whole (b ∷ []) = rw append-nil at (upstream-frames (b ∷ []) (omega arith) (omega arith, tt) (full-message m, tt)) in
+    let u : upstream (frame b) ≡ whole (b ∷ []) = rw (frames-one b) at (upstream-frames (b ∷ []) (omega arith) (omega arith, tt) (full-message m, tt)) in
     opened (frame b) (λ e. omega arith) (omega arith)
     ∙ ap readCut u
     ∙ rw e (into-checked cs (taken m) (λ x. taken (x ∷ [])))
@@ -52,22 +54,22 @@ reply-request n c room h =
     let e = replies (leftT k c) (request n c) room (omega arith) (checks-request k c (omega arith) h) in
     rw (same n) at e where
       same : (n : ℕ) → min n 4294967295 is 0 ≡ n is 0
-      same n = by (eqb n 0) refl where
-        by : (t : Bool) → eqb n 0 ≡ t → min n 4294967295 is 0 ≡ t
-        by true q = let z = eqb-true n 0 q in eq-eqb (min n 4294967295) 0 (omega arith)
-        by false q = let z = eqb-false n 0 q in ne-eqb (min n 4294967295) 0 (λ e. z (omega arith))
+      same n =
+          by-test (eqb n 0)
+          (λ q. let z = eqb-true n 0 q in rw q (eq-eqb (min n 4294967295) 0 (omega arith)))
+          (λ q. let z = eqb-false n 0 q in rw q (ne-eqb (min n 4294967295) 0 (λ e. z (omega arith))))
 
 pub reply-unsequenced : (b : List ℕ) (room : ℕ) → reply (unsequenced b) room ≡ checked ((length b atMost 1469 else 2) ∷ []) (within room (frame (85 ∷ b)))
 unfolding reply verdict readUp
-reply-unsequenced b room = by (leb (length b) 1469) refl where
-  by : (t : Bool) → leb (length b) 1469 ≡ t → reply (unsequenced b) room ≡ if t then within room (frame (85 ∷ b)) else refused 2
-  by true q =
-      let l = leb-true (length b) 1469 q in
-      replies [] (unsequenced b) room (omega arith) (read-unsequenced b l)
-  by false q =
-      let l = leb-false (length b) 1469 q in
-      let n = length-frame (85 ∷ b) in
-      rw (ne-eqb (length (frame (85 ∷ b))) 0 (λ e. omega arith), lt-leb (length (frame (85 ∷ b))) 1472 (omega arith))
+reply-unsequenced b room =
+    by-test (leb (length b) 1469)
+    (λ q.
+    let l = leb-true (length b) 1469 q in
+    rw q (replies [] (unsequenced b) room (omega arith) (read-unsequenced b l)))
+    (λ q.
+    let l = leb-false (length b) 1469 q in
+    let n = length-frame (85 ∷ b) in
+    rw (q, ne-eqb (length (frame (85 ∷ b))) 0 (λ e. omega arith), lt-leb (length (frame (85 ∷ b))) 1472 (omega arith)))
 
 -- a lawful message is written if there is room
 pub reply-fit : (m : Message) (room : ℕ) → FitMessage m → reply m room ≡ within room (frame (writeMessage m))

@@ -3,21 +3,20 @@
 use Prim.Native.Nat.{ℕ, suc, _+_, _≤_, _<_}
 use mathlib.Core.List.{List, [], _∷_, _++_}
 use mathlib.Core.Path.{_≡_, refl, ap, sym, _∙_}
-use mathlib.Core.Bool.{true, false, true≢false}
-use native.Mathlib.Nat.{add-zero}
+use native.Mathlib.Nat.{add-zero, zero-add, add-suc, suc-add}
 use native.Mathlib.Numerals.{add-one}
 use native.Mathlib.Omega.{arith}
 use borrow.Author.Tests.{le-leb, ne-eqb}
 use lib.ListN.{length, take, drop, getD, length-append, drop-of-length-le}
 use lib.Seq.{drop-at, drop-cons}
-use Rattle.wire.specs.Fields.{Bytes}
 use Rattle.wire.specs.Checks.{Verdict, refused, taken, _into_}
-use Rattle.blocks.specs.Blocks.{frame, frames, stated, Cut, torn, whole, upstream, isWhole, messagesOf, endAt, Each, Short, Full}
+use Rattle.wire.proofs.Tests.{impossible}
+use Rattle.blocks.specs.Blocks.{frame, frames, stated, upstream, messagesOf, endAt, Each, Short, Full}
 use Rattle.blocks.specs.declared.Place.the-variants as place
-use Rattle.blocks.proofs.Frames.{length-frame, short-frames, front-stated, front-first}
-use Rattle.blocks.proofs.Cutting.{frames-upstream}
-use Rattle.blocks.proofs.Skipping.{end-framed}
-use Rattle.ufo.proofs.UpPlaces.{each-at, placed, placed-next, split, not-all, all}
+use Rattle.blocks.proofs.Frames.{length-frame, front-stated, front-first}
+use Rattle.blocks.proofs.Places.{each-at, placed, placed-next, frames-around, not-all, all}
+use Rattle.blocks.proofs.Cutting.{Framed}
+use Rattle.blocks.proofs.Skipping.{end-framed, end-placed}
 use Rattle.ufo.specs.Up.{Message, login, request, unsequenced, heartbeat, logout, readMessage, readEach, messageAt, upOf, nextOf, upstreamOf}
 use Rattle.ufo.specs.declared.up.Upstream.{Upstream}
 use Rattle.ufo.specs.declared.up.Upstream.the-variants as packet
@@ -33,16 +32,10 @@ framed-at a m t h f =
     let e = end-framed a m t h in
     rw (le-leb (endAt d (length a)) (length d) (omega arith), ne-eqb (stated (drop (length a) d)) 0 (λ q. omega arith), w, front-first m t h)
 
-module _ (bs : List (List ℕ)) (k : ℕ) (d : List ℕ) (w : frames bs ≡ d) (short : Each Short bs) (full : Each Full bs) (h : k < length bs) where
-  pub message-at : messageAt d (placed bs k) ≡ readMessage (getD bs k [])
-  message-at =
-      rw (← w, split bs k h)
-      (framed-at (frames (take k bs)) (getD bs k []) (frames (drop (k + 1) bs)) (each-at Short bs k short h) (each-at Full bs k full h))
-
-  pub end-at : endAt d (placed bs k) ≡ placed bs (k + 1)
-  end-at =
-      rw (← w, split bs k h)
-      (end-framed (frames (take k bs)) (getD bs k []) (frames (drop (k + 1) bs)) (each-at Short bs k short h) ∙ sym (placed-next bs k h))
+message-at : (bs : List (List ℕ)) (k : ℕ) → Each Short bs → Each Full bs → k < length bs → messageAt (frames bs) (placed bs k) ≡ readMessage (getD bs k [])
+message-at bs k short full h =
+    rw (frames-around bs k h)
+    (framed-at (frames (take k bs)) (getD bs k []) (frames (drop (k + 1) bs)) (each-at Short bs k short h) (each-at Full bs k full h))
 
 -- how many messages, after k that were counted before
 abbrev pub counted : ℕ → Verdict (List Message) → Upstream
@@ -51,9 +44,7 @@ counted k (taken ms) = packet.Messages (k + length ms)
 
 pub counted-none : (v : Verdict (List Message)) → upstreamOf v ≡ counted 0 v
 counted-none (refused n) = refl
-counted-none (taken ms) = ap packet.Messages (same (length ms)) where
-  same : (n : ℕ) → n ≡ 0 + n
-  same n = omega arith
+counted-none (taken ms) = ap packet.Messages (sym (zero-add (length ms)))
 
 module _ (bs : List (List ℕ)) (k : ℕ) where
   pub counted-all : length bs ≤ k → counted k (readEach (drop k bs)) ≡ packet.Messages k
@@ -66,9 +57,7 @@ module _ (bs : List (List ℕ)) (k : ℕ) where
     counted-more m e = rw (drop-cons bs k [] h, add-one, e) (by (readEach (drop (suc k) bs))) where
       by : (v : Verdict (List Message)) → counted k (v into (λ ms. taken (m ∷ ms))) ≡ counted (suc k) v
       by (refused n) = refl
-      by (taken ms) = ap packet.Messages (more k (length ms)) where
-        more : (a b : ℕ) → a + suc b ≡ suc a + b
-        more a b = omega arith
+      by (taken ms) = ap packet.Messages (add-suc k (length ms) ∙ sym (suc-add k (length ms)))
 
     pub counted-stop : (n : ℕ) → readMessage (getD bs k []) ≡ refused n → counted k (readEach (drop k bs)) ≡ packet.Refused n
     unfolding readEach
@@ -82,9 +71,7 @@ pub record Went (v : Verdict Message) (end next : ℕ) : Type 0 where
 
 module _ (end : ℕ) where
   pub went : (v : Verdict Message) (next : ℕ) → nextOf (upOf end v) ≡ place.At next → Went v end next
-  went (refused n) next e = absurd (differ (cc)) where
-    differ : _≡_ {A = ℕ} 0 1 → ⊥
-    differ z = omega arith
+  went (refused n) next e = impossible cc
   went (taken (login u w s)) next e = record { message = login u w s; is = refl; ends = cc }
   went (taken (request n c)) next e = record { message = request n c; is = refl; ends = cc }
   went (taken (unsequenced b)) next e = record { message = unsequenced b; is = refl; ends = cc }
@@ -98,20 +85,6 @@ module _ (end : ℕ) where
   stopped (taken (unsequenced b)) n e = cc
   stopped (taken heartbeat) n e = cc
   stopped (taken logout) n e = cc
-
--- a packet whose blocks are whole, and its messages' bytes
-pub record Framed (d : List ℕ) (bs : List (List ℕ)) : Type 0 where
-  pub bytes : frames bs ≡ d
-  pub short : Each Short bs
-  pub full : Each Full bs
-
-pub framed : (d : List ℕ) → Bytes d → isWhole (upstream d) ≡ true → length d ≤ 1472 → Framed d (messagesOf (upstream d))
-framed d b w l = by (upstream d) refl w where
-  by : (q : Cut) → upstream d ≡ q → isWhole q ≡ true → Framed d (messagesOf q)
-  by torn e w = absurd (true≢false (sym w))
-  by (whole bs) e w =
-      let f = frames-upstream d bs b e in
-      record { bytes = f .0; short = short-frames bs (rw (f .0) (omega arith)); full = f .2 }
 
 -- after k messages that were taken the place `at` is reached, and the others are still to be read
 pub record Reached (d : List ℕ) (at k : ℕ) : Type 0 where
@@ -131,13 +104,13 @@ module _ (d : List ℕ) (at k : ℕ) (f : Framed d (messagesOf (upstream d))) (r
 
   module _ (l : at < length d) where
     another : k < length bs
-    another = not-all bs k (r .some) (rw (f .bytes, ← r .place) l)
+    another = not-all bs k (rw (f .bytes, ← r .place) l)
 
     same-message : messageAt d at ≡ readMessage (getD bs k [])
-    same-message = rw (r .place) (message-at bs k d (f .bytes) (f .short) (f .full) another)
+    same-message = rw (r .place) (rw (f .bytes) at (message-at bs k (f .short) (f .full) another))
 
     same-end : endAt d at ≡ placed bs (k + 1)
-    same-end = rw (r .place) (end-at bs k d (f .bytes) (f .short) (f .full) another)
+    same-end = rw (r .place) (rw (f .bytes) at (end-placed bs k (f .short) another))
 
     pub reached-more : (next : ℕ) → nextOf (upOf (endAt d at) (messageAt d at)) ≡ place.At next → Reached d next (k + 1) × (at < next)
     reached-more next e =
@@ -154,4 +127,4 @@ module _ (d : List ℕ) (at k : ℕ) (f : Framed d (messagesOf (upstream d))) (r
         sym (r .answer ∙ counted-stop bs k another n (sym same-message ∙ stopped (endAt d at) (messageAt d at) n e))
 
   pub reached-end : length d ≤ at → packet.Messages k ≡ upstreamOf (readEach bs)
-  reached-end l = sym (r .answer ∙ counted-all bs k (all bs k (r .some) (rw (f .bytes, ← r .place) l)))
+  reached-end l = sym (r .answer ∙ counted-all bs k (all bs k (rw (f .bytes, ← r .place) l)))

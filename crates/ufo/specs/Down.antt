@@ -8,6 +8,7 @@ use mathlib.Core.Bool.{true, false, not, _||_}
 use lib.ListN.{length, getD, take, drop}
 use Rattle.wire.specs.Fields.{be, bytesOf, Bytes}
 use Rattle.wire.specs.Checks.{if_then_else_, _is_, _atMost_, Verdict, refused, taken, Check, _else_, checked}
+use Rattle.wire.specs.Datagram.{limit, opening}
 use Rattle.wire.specs.Names.{nameOf}
 use Rattle.wire.specs.Text.{blank, textThenSpaces}
 use Rattle.blocks.specs.Blocks.{frames, Cut, cut, isWhole, messagesOf, Each}
@@ -43,17 +44,13 @@ pub record FitMessages (first : ℕ) (ms : List (List ℕ)) : Type 0 where
   pub some : 0 < first
   pub bound : first + length ms ≤ 2 ^ 32 - 1
   pub bytes : Each Bytes ms
-  pub size : length (write (messages first ms)) ≤ 1472
+  pub size : length (write (messages first ms)) ≤ limit
 
 abbrev pub Fit : Packet → Type 0
 Fit (accept session next) = FitAccept session next
 Fit (reject reason) = (reason ≡ 65) ⊎ (reason ≡ 83)
 Fit (messages first ms) = FitMessages first ms
 Fit (end total) = total ≤ 2 ^ 32 - 2
-
--- any packet: at least a byte, at most 1,472
-abbrev pub opening : List ℕ → List Check
-opening d = (not (length d is 0) else 1) ∷ (length d atMost 1472 else 2) ∷ []
 
 -- A: session 10, next number 4; 15 bytes
 abbrev pub sessionA : List ℕ → List ℕ

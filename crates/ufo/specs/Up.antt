@@ -7,6 +7,7 @@ use mathlib.Core.Bool.{true, not}
 use lib.ListN.{length, getD, take, drop}
 use Rattle.wire.specs.Fields.{be, bytesOf, Bytes}
 use Rattle.wire.specs.Checks.{if_then_else_, _is_, _atMost_, Verdict, refused, taken, Check, _else_, checked, _into_}
+use Rattle.wire.specs.Datagram.{limit, opening}
 use Rattle.wire.specs.Names.{nameOf, userOf}
 use Rattle.wire.specs.Text.{textThenSpaces}
 use Rattle.blocks.specs.Blocks.{frames, stated, first, Cut, torn, whole, upstream, endAt}
@@ -55,7 +56,7 @@ FitAll (m ∷ ms) = FitMessage m × FitAll ms
 pub record Fit (ms : List Message) : Type 0 where
   pub some : 0 < length ms
   pub all : FitAll ms
-  pub short : length (writeUp ms) ≤ 1472
+  pub short : length (writeUp ms) ≤ limit
 
 -- a message's own bytes, type by type
 abbrev pub kind : List ℕ → ℕ
@@ -133,12 +134,6 @@ readCut torn = refused 4
 readCut (whole bs) = readEach bs
 
 -- the packet's length comes first, then the blocks over all of it, then the messages
-abbrev pub opening : List ℕ → List Check
-opening d =
-    (not (length d is 0) else 1)
-    ∷ (length d atMost 1472 else 2)
-    ∷ []
-
 unfoldable pub readUp : List ℕ → Verdict (List Message)
 readUp d = checked (opening d) (readCut (upstream d))
 

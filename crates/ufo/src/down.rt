@@ -1,6 +1,7 @@
 // UFO, server to client: what a datagram says.
 ghost use mathlib.Core.Path.{_≡_};
 ghost use Rattle.ufo.specs.Down.{read, readA, readJ, readS, readE, downOf};
+use wire::datagram;
 use wire::fields;
 use wire::kinds::Name;
 use wire::kinds::Sequence;
@@ -9,7 +10,7 @@ use wire::refusal;
 use wire::text;
 
 // The longest packet, in bytes.
-pub const LONGEST: usize = 1472;
+pub const LONGEST: usize = datagram::LIMIT;
 // The highest number that a field of four bytes holds.
 pub const HIGHEST: u64 = 4294967295;
 

@@ -4,8 +4,10 @@ ghost use mathlib.Core.Bool.{true};
 ghost use Prim.Native.Nat.{_≤_, _<_};
 ghost use lib.ListN.{length};
 ghost use Rattle.wire.specs.Checks.{if_then_else_, _is_};
+ghost use Rattle.wire.specs.Datagram.{limit};
 ghost use Rattle.blocks.specs.Blocks.{upstream, isWhole, messagesOf, endAt};
 ghost use Rattle.ufo.specs.Up.{readL, readT, readU, readEach, readUp, messageAt, messageIn, upstreamOf, upOf, nextOf};
+use crate::down::LONGEST;
 use blocks::Block;
 use blocks::Count;
 use blocks::Place;
@@ -16,9 +18,6 @@ use wire::kinds::User;
 use wire::names;
 use wire::refusal;
 use wire::text;
-
-// The most bytes that a packet may have.
-const PACKET: usize = 1472;
 
 // A whole packet: how many messages it has.
 pub enum Upstream {
@@ -105,7 +104,7 @@ fn read_u(m: &[u8], next: usize) -> Up
     requires { ⌜ (0 < length (now m)) × (length (now m) ≤ next) ⌝ }
     ensures { λ r. ⌜ r ≡ upOf next (readU (now (m .entry))) ⌝ }
 {
-    if PACKET - 2 < m.len() {
+    if LONGEST - 2 < m.len() {
         return Up::Refused(refusal::FRAMING);
     }
     let length = m.len() - 1;
@@ -181,7 +180,7 @@ fn next_place(m: Up) -> Place
 
 // The messages of a packet whose blocks are whole.
 fn read_each(d: &[u8]) -> Upstream
-    requires { ⌜ (isWhole (upstream (now d)) ≡ true) × (length (now d) ≤ 1472) ⌝ }
+    requires { ⌜ (isWhole (upstream (now d)) ≡ true) × (length (now d) ≤ limit) ⌝ }
     ensures { λ r. ⌜ r ≡ upstreamOf (readEach (messagesOf (upstream (now (d .entry))))) ⌝ }
 {
     let mut at = 0;
@@ -206,7 +205,7 @@ pub fn read_message(d: &[u8], place: usize) -> Up
     if d.len() == 0 {
         return Up::Refused(refusal::EMPTY);
     }
-    if PACKET < d.len() {
+    if LONGEST < d.len() {
         return Up::Refused(refusal::OVERLONG);
     }
     message_at(d, place)
@@ -218,7 +217,7 @@ pub fn read_up(d: &[u8]) -> Upstream
     if d.len() == 0 {
         return Upstream::Refused(refusal::EMPTY);
     }
-    if PACKET < d.len() {
+    if LONGEST < d.len() {
         return Upstream::Refused(refusal::OVERLONG);
     }
     match blocks::count_upstream(d) {

@@ -1,8 +1,8 @@
 -- Packing ten or six bytes and laying them out again are inverse to each other: one law over the two widths.
 -- Assumes nothing.
 use Prim.Native.Nat.{ℕ, _+_, _*_, _^_, _≤_, _<_}
-use mathlib.Core.Path.{_≡_, refl, ap, sym, _∙_}
-use mathlib.Core.List.{List, [], _++_, append-assoc}
+use mathlib.Core.Path.{_≡_}
+use mathlib.Core.List.{List, _++_, append-assoc}
 use native.Mathlib.Omega.{arith}
 use lib.ListN.{length, take, drop, length-drop, length-append}
 use lib.Seq.{drop-at, take-add, sets}
@@ -10,7 +10,7 @@ use Rattle.wire.specs.Fields.{be, bytesOf, Bytes}
 use Rattle.wire.specs.Names.{nameBytes, nameOf, userBytes, userOf}
 use Rattle.wire.specs.declared.kinds.Name.{Name}
 use Rattle.wire.specs.declared.kinds.User.{User}
-use Rattle.wire.proofs.Width.{be-bytesOf, bytesOf-be, bytes-drop, length-bytesOf, sets-append}
+use Rattle.wire.proofs.Width.{be-bytesOf, bytesOf-be, bytes-drop, length-bytesOf, sets-after}
 
 module _ (j k : ℕ) where
   -- two fields side by side, read from what was written
@@ -28,7 +28,7 @@ module _ (j k : ℕ) where
       rw (bytesOf-be j s b (omega arith), bytesOf-be k (drop j s) (bytes-drop j s b) (rw length-drop (omega arith)), take-add j k s)
 
   pair-put : (d : List ℕ) (at m n : ℕ) → sets (sets d at (bytesOf j m)) (at + j) (bytesOf k n) ≡ sets d at (bytesOf j m ++ bytesOf k n)
-  pair-put d at m n = rw (← sets-append d at (bytesOf j m) (bytesOf k n), length-bytesOf)
+  pair-put d at m n = sets-after d at j (bytesOf j m) (bytesOf k n) (length-bytesOf j m)
 
 -- what fits a name's two numbers
 abbrev pub Holds : Name → Type 0

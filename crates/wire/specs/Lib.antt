@@ -3,3 +3,4 @@ pub mod Checks
 pub mod Names
 pub mod Text
 pub mod Reply
+pub mod Datagram

@@ -1,4 +1,5 @@
-// The words of the wire: kinds, refusal numbers, fields, text, and what is laid into lent output.
+// The words of the wire: kinds, refusal numbers, sizes, fields, text, and what is laid into lent output.
+pub mod datagram;
 pub mod fields;
 pub mod kinds;
 pub mod names;

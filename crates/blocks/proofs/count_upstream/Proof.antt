@@ -1,11 +1,10 @@
-use Prim.Native.Nat.{ℕ, _+_, _-_, _≤_, _<_}
-use mathlib.Core.Path.{_≡_, refl, ap, sym, _∙_}
+use Prim.Native.Nat.{ℕ, _+_, _-_, _≤_}
+use mathlib.Core.Path.{_≡_, refl, sym, _∙_}
 use denote.Ref.{now}
 use native.Mathlib.Omega.{arith}
 use borrow.Author.Needs.{needs}
-use lib.ListN.{length, drop}
-use Rattle.blocks.specs.Blocks.{stated, endAt, upstream, countOf}
-use Rattle.blocks.proofs.Steps.{found, missed, tally, upFrom, tally-step, tally-torn, tally-empty, tally-end, count-some, count-none}
+use lib.ListN.{length}
+use Rattle.blocks.proofs.Steps.{Stands, found, missed, tally, upFrom, tally-step, tally-torn, tally-empty, tally-end, count-some, count-none}
 use Rattle.blocks.proofs.count_upstream.Statement.{statement}
 use Rattle.blocks.proofs.count_upstream.Tie as tie
 
@@ -19,7 +18,7 @@ abbrev μ-loop : tie.MeasureT-loop
 μ-loop s at₀ count₀ at count = length s - at
 
 -- the block that a turn found
-step : (c : tie.Else1 Inv-loop μ-loop) → let s = now (c .before .before .before .before .before .before .before .before .args .s) in let p = c .before .before .before .before .before .before .loop .at in let g = c .before .before .length .given .0 in (g .1 .1 .0 ≡ endAt s p) × (g .1 .0 ≡ stated (drop p s)) × (endAt s p ≤ length s)
+step : (c : tie.Else1 Inv-loop μ-loop) → let s = now (c .before .before .before .before .before .before .before .before .args .s) in let p = c .before .before .before .before .before .before .loop .at in let g = c .before .before .length .given .0 in Stands s p (g .1 .0) (g .1 .1 .0)
 step c =
     let g = c .before .before .length .given in
     found (now (c .before .before .before .before .before .before .before .before .args .s)) (c .before .before .before .before .before .before .loop .at) (g .0 .0) (g .0 .1 .0) (g .0 .1 .1 .0) (cc (c .before .before .before .before .next .ensures, g .1))

@@ -1,9 +1,8 @@
-use Prim.Native.Nat.{suc, _-_, _≤_, _<_}
-use mathlib.Core.Path.{_≡_, refl, ap, sym, _∙_}
+use Prim.Native.Nat.{suc, _-_}
+use mathlib.Core.Path.{_≡_}
 use denote.Ref.{now}
 use native.Mathlib.Omega.{arith}
 use borrow.Author.Needs.{needs}
-use lib.ListN.{length, drop}
 use Rattle.blocks.specs.Blocks.{fills}
 use Rattle.blocks.proofs.Steps.{found, missed, fills-step, fills-torn, fills-end}
 use Rattle.blocks.proofs.exactly.Statement.{statement}

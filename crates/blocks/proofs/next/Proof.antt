@@ -1,5 +1,5 @@
 use denote.Ref.{now}
-use mathlib.Core.Path.{refl, sym}
+use mathlib.Core.Path.{sym}
 use native.Mathlib.Omega.{arith}
 use Rattle.blocks.proofs.Steps.{block-over, block-fits}
 use borrow.Author.Needs.{needs}

@@ -1,10 +1,9 @@
 use Prim.Native.Nat.{ℕ, suc, _-_, _≤_, _<_}
-use mathlib.Core.Path.{_≡_, refl, ap, sym, _∙_}
+use mathlib.Core.Path.{_≡_, ap, _∙_}
 use denote.Ref.{now}
 use native.Mathlib.Omega.{arith}
 use borrow.Author.Needs.{needs}
-use lib.ListN.{length, drop}
-use Rattle.blocks.specs.Blocks.{placeAfter, placeOf}
+use Rattle.blocks.specs.Blocks.{placeAfter}
 use Rattle.blocks.proofs.Steps.{found, missed, place-step, place-torn, place-here, place-past}
 use Rattle.blocks.proofs.skip.Statement.{statement}
 use Rattle.blocks.proofs.skip.Tie as tie

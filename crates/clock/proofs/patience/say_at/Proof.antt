@@ -1,6 +1,6 @@
 use lib.Ieee.{ofBits, round}
 use borrow.Author.Needs.{needs}
-use Rattle.clock.proofs.Tests.{held, failed}
+use Rattle.wire.proofs.Tests.{held, failed}
 use Rattle.clock.proofs.patience.say_at.Statement.{statement}
 use Rattle.clock.proofs.patience.say_at.Tie as tie
 

@@ -1,5 +1,5 @@
 use borrow.Author.Needs.{needs}
-use Rattle.clock.proofs.Tests.{held, failed}
+use Rattle.wire.proofs.Tests.{held, failed}
 use Rattle.clock.proofs.patience.wait_of.Statement.{statement}
 use Rattle.clock.proofs.patience.wait_of.Tie as tie
 

@@ -1,5 +1,5 @@
 use borrow.Author.Needs.{needs}
-use Rattle.clock.proofs.Tests.{held, failed}
+use Rattle.wire.proofs.Tests.{held, failed}
 use Rattle.clock.proofs.sheet.time.Statement.{statement}
 use Rattle.clock.proofs.sheet.time.Tie as tie
 

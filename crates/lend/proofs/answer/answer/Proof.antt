@@ -6,22 +6,22 @@ use borrow.Author.Needs.{needs}
 use borrow.Author.Tests.{lt-leb, eq-eqb, ne-eqb}
 use lib.ListN.{length}
 use Rattle.wire.proofs.Settling.{refuses, settled-by}
+use Rattle.wire.proofs.Tests.{held, failed}
 use Rattle.lend.specs.Log.{hangs}
 use Rattle.lend.specs.Answer.{answerReply}
 use Rattle.lend.proofs.Replies.{answers-packed, answers-end, answers-beat}
-use Rattle.lend.proofs.Hanging.{found-broken, found-whole}
 use Rattle.lend.proofs.answer.answer.Statement.{statement}
 use Rattle.lend.proofs.answer.answer.Tie as tie
 
 hung : (c : tie.Else1) → let a = c .before .before .before .before .args in hangs (a .log) (now (a .bytes)) ≡ true
-hung c = found-whole (c .before .hangs-together .ensures) (c .if1 .left)
+hung c = held (c .before .hangs-together .ensures) (c .if1 .left)
 
 hangs-together-requires : tie.Need-hangs-together-requires
 hangs-together-requires c κs = search needs
 
 returns : tie.Need-returns
 unfolding answerReply
-returns c = refuses _ _ 10 (rw (found-broken (c .before .hangs-together .ensures) (c .if1 .taken)))
+returns c = refuses _ _ 10 (rw (failed (c .before .hangs-together .ensures) (c .if1 .taken)))
 
 returns-2 : tie.Need-returns-2
 unfolding answerReply

@@ -5,22 +5,23 @@ use native.Mathlib.Omega.{arith}
 use borrow.Author.Needs.{needs}
 use lib.ListN.{length}
 use Rattle.wire.proofs.Settling.{refuses, settled-by}
+use Rattle.wire.proofs.Tests.{held, failed}
 use Rattle.lend.specs.Log.{hangs}
 use Rattle.lend.specs.Answer.{heartbeatReply}
-use Rattle.lend.proofs.Hanging.{found-broken, found-whole, hanging}
+use Rattle.lend.proofs.Hanging.{hanging}
 use Rattle.lend.proofs.Replies.{replies-beat}
 use Rattle.lend.proofs.answer.heartbeat.Statement.{statement}
 use Rattle.lend.proofs.answer.heartbeat.Tie as tie
 
 hung : (c : tie.Else1) → let a = c .before .before .before .before .args in hangs (a .log) (now (a .bytes)) ≡ true
-hung c = found-whole (c .before .hangs-together .ensures) (c .if1 .left)
+hung c = held (c .before .hangs-together .ensures) (c .if1 .left)
 
 hangs-together-requires : tie.Need-hangs-together-requires
 hangs-together-requires c κs = search needs
 
 returns : tie.Need-returns
 unfolding heartbeatReply
-returns c = refuses _ _ 10 (rw (found-broken (c .before .hangs-together .ensures) (c .if1 .taken)))
+returns c = refuses _ _ 10 (rw (failed (c .before .hangs-together .ensures) (c .if1 .taken)))
 
 add-t7 : tie.Need-add-t7
 add-t7 c =

@@ -1,18 +1,15 @@
-use Prim.Native.Nat.{ℕ, suc, _+_, _-_, _≤_, _<_}
+use Prim.Native.Nat.{_+_, _-_, _≤_}
 use mathlib.Core.Path.{_≡_, ap, sym, _∙_}
 use denote.Ref.{now}
+use native.Mathlib.Nat.{sub-zero}
 use native.Mathlib.Omega.{arith}
 use borrow.Author.Needs.{needs}
-use Rattle.blocks.proofs.Steps.{found, missed}
+use Rattle.blocks.proofs.Steps.{Stands, found, missed}
 use Rattle.lend.specs.Answer.{run}
-use Rattle.lend.proofs.Passes.{Block}
+use Rattle.lend.proofs.Passes.{turn}
 use Rattle.lend.proofs.Measuring.{run-on, run-torn, run-full, run-done}
 use Rattle.lend.proofs.answer.measure.Statement.{statement}
 use Rattle.lend.proofs.answer.measure.Tie as tie
-
--- one more turn is left
-turn : (n k : ℕ) → k < n → n - k ≡ suc (n - (k + 1))
-turn n k h = omega arith
 
 abbrev Inv-loop : tie.InvT-loop
 Inv-loop s at count end₀ k₀ end k = (at ≤ end) × (k ≤ count) × (run s at at 0 count ≡ run s at end k (count - k))
@@ -21,7 +18,7 @@ abbrev μ-loop : tie.MeasureT-loop
 μ-loop s at count end₀ k₀ end k = count - k
 
 -- the block that a turn found
-step : (c : tie.After-known-told Inv-loop μ-loop) → let d = c .before .before .before .before .before in let g = c .before .next2 .given .0 in Block (now (d .before .before .args .s)) (d .loop .end) (g .1 .0) (g .1 .1 .0)
+step : (c : tie.After-known-told Inv-loop μ-loop) → let d = c .before .before .before .before .before in let g = c .before .next2 .given .0 in Stands (now (d .before .before .args .s)) (d .loop .end) (g .1 .0) (g .1 .1 .0)
 step c =
     let d = c .before .before .before .before .before in
     let g = c .before .next2 .given in
@@ -32,10 +29,8 @@ loop-holds c =
     let a = c .before .args in (
       omega arith,
       omega arith,
-      ap (run (now (a .s)) (a .at) (a .at) 0) (same (a .count)),
-    ) where
-      same : (n : ℕ) → n ≡ n - 0
-      same n = omega arith
+      ap (run (now (a .s)) (a .at) (a .at) 0) (sym (sub-zero (a .count))),
+    )
 
 next-requires : tie.Need-next-requires Inv-loop μ-loop
 next-requires c κs = search needs

@@ -5,18 +5,22 @@ use mathlib.Core.Bool.{true}
 use denote.Ref.{now}
 use native.Mathlib.Omega.{arith}
 use borrow.Author.Needs.{needs}
-use lib.ListN.{length}
+use lib.ListN.{length, take, drop}
+use lib.Seq.{take-length}
 use Rattle.wire.specs.Checks.{taken}
+use Rattle.wire.proofs.Tests.{held, failed}
+use Rattle.wire.proofs.Settling.{stored-at}
 use Rattle.blocks.specs.Blocks.{frames}
+use Rattle.blocks.proofs.Frames.{length-one, stored-one}
 use Rattle.lend.specs.Log.{hangs, fitting, adding, extended}
-use Rattle.lend.proofs.Hanging.{found-broken, found-whole, Hangs, hanging}
+use Rattle.lend.proofs.Hanging.{Hangs, hanging}
 use Rattle.lend.proofs.Adding.{Fits}
-use Rattle.lend.proofs.Entering.{refuses, enters, stored-at, framed-at, length-one, grows, too-long, too-many, no-room, takes-one, small-one, big-one}
+use Rattle.lend.proofs.Entering.{refuses, enters, grows, too-long, too-many, no-room, takes-one, small-one, big-one}
 use Rattle.lend.proofs.log.add.Statement.{statement}
 use Rattle.lend.proofs.log.add.Tie as tie
 
 hung : (c : tie.Else1) → let a = c .before .before .before .before .before .args in hangs (a .log) (now (a .bytes)) ≡ true
-hung c = found-whole (c .before .hangs-together .ensures) (c .if1 .left)
+hung c = held (c .before .hangs-together .ensures) (c .if1 .left)
 
 known : (c : tie.Else1) → let a = c .before .before .before .before .before .args in Hangs (a .log) (now (a .bytes))
 known c = let a = c .before .before .before .before .before .args in hanging (a .log) (now (a .bytes)) (hung c)
@@ -29,7 +33,7 @@ same-length c = search needs
 
 returns : tie.Need-returns
 unfolding adding
-returns c = refuses _ _ 10 (rw (found-broken (c .before .hangs-together .ensures) (c .if1 .taken)))
+returns c = refuses _ _ 10 (rw (failed (c .before .hangs-together .ensures) (c .if1 .taken)))
 
 same-length-2 : tie.Need-same-length-2
 same-length-2 c = search needs
@@ -122,12 +126,13 @@ returns-6 c =
       count = omega arith;
       room = omega arith;
     } in
-    let e = framed-at s m u ∙ stored-at s (frames (m ∷ [])) u (f .room) in
+    let e = stored-one s m u ∙ stored-at s (frames (m ∷ [])) u (f .room) in
+    let all : take (length m) (drop 0 m) ≡ m = take-length m in
     let mark : u + 2 + length m ≡ u + length (frames (m ∷ [])) = omega arith in
     enters _ _ (extended (a .log) s (m ∷ [])) _ _
     (takes-one (a .log) s m f)
     (rw mark)
-    (cc (e, c .before .before .copy .ensures, c .before .before .before .before .before .before .put2 .ensures))
+    (cc (e, all, c .before .before .copy .ensures, c .before .before .before .before .before .before .put2 .ensures))
 
 pub add-spec : {M : Type 1} → statement M
 add-spec =

@@ -7,16 +7,18 @@ use lib.ListN.{length}
 use lib.Seq.{take-length}
 use Rattle.wire.specs.Checks.{taken}
 use Rattle.blocks.specs.Blocks.{frames, messagesOf}
+use Rattle.wire.proofs.Tests.{held, failed}
+use Rattle.wire.proofs.Settling.{stored-at}
 use Rattle.lend.specs.Log.{hangs, toTheEnd, addingMany, extended}
-use Rattle.lend.proofs.Hanging.{found-broken, found-whole, Hangs, hanging}
+use Rattle.lend.proofs.Hanging.{Hangs, hanging}
 use Rattle.lend.proofs.Adding.{Fits}
-use Rattle.lend.proofs.Entering.{refuses, enters, stored-at, too-many, no-room, takes-many}
+use Rattle.lend.proofs.Entering.{refuses, enters, too-many, no-room, takes-many}
 use Rattle.lend.proofs.Many.{Tallied, counted, not-counted, frames-all}
 use Rattle.lend.proofs.log.add_many.Statement.{statement}
 use Rattle.lend.proofs.log.add_many.Tie as tie
 
 hung : (c : tie.Else1) → let a = c .before .before .before .before .before .args in hangs (a .log) (now (a .bytes)) ≡ true
-hung c = found-whole (c .before .hangs-together .ensures) (c .if1 .left)
+hung c = held (c .before .hangs-together .ensures) (c .if1 .left)
 
 known : (c : tie.Else1) → let a = c .before .before .before .before .before .args in Hangs (a .log) (now (a .bytes))
 known c = let a = c .before .before .before .before .before .args in hanging (a .log) (now (a .bytes)) (hung c)
@@ -40,7 +42,7 @@ same-length c = search needs
 
 returns : tie.Need-returns
 unfolding addingMany
-returns c = refuses _ _ 10 (rw (found-broken (c .before .hangs-together .ensures) (c .if1 .taken)))
+returns c = refuses _ _ 10 (rw (failed (c .before .hangs-together .ensures) (c .if1 .taken)))
 
 same-length-2 : tie.Need-same-length-2
 same-length-2 c = search needs

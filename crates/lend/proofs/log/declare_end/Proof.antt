@@ -2,20 +2,20 @@ use mathlib.Core.Path.{_≡_}
 use mathlib.Core.Bool.{true}
 use denote.Ref.{now}
 use borrow.Author.Needs.{needs}
+use Rattle.wire.proofs.Tests.{held, failed}
 use Rattle.lend.specs.Log.{hangs, declaring}
-use Rattle.lend.proofs.Hanging.{found-broken, found-whole}
 use Rattle.lend.proofs.log.declare_end.Statement.{statement}
 use Rattle.lend.proofs.log.declare_end.Tie as tie
 
 hung : (c : tie.Else1) → let a = c .before .before .before .args in hangs (a .log) (now (a .bytes)) ≡ true
-hung c = found-whole (c .before .hangs-together .ensures) (c .if1 .left)
+hung c = held (c .before .hangs-together .ensures) (c .if1 .left)
 
 hangs-together-requires : tie.Need-hangs-together-requires
 hangs-together-requires c κs = search needs
 
 returns : tie.Need-returns
 unfolding declaring
-returns c = rw (found-broken (c .before .hangs-together .ensures) (c .if1 .taken))
+returns c = rw (failed (c .before .hangs-together .ensures) (c .if1 .taken))
 
 returns-2 : tie.Need-returns-2
 unfolding declaring

@@ -1,23 +1,17 @@
-use Prim.Native.Nat.{ℕ, suc, _+_, _-_, _≤_, _<_}
+use Prim.Native.Nat.{ℕ, suc, _-_, _≤_}
 use mathlib.Core.Path.{_≡_, ap, sym, _∙_}
 use mathlib.Core.Bool.{true, false}
 use denote.Ref.{now}
+use native.Mathlib.Nat.{sub-zero}
 use native.Mathlib.Omega.{arith}
 use borrow.Author.Needs.{needs}
 use borrow.Author.Tests.{not-true, not-false}
 use lib.ListN.{length, drop}
-use Rattle.blocks.proofs.Steps.{found, missed}
+use Rattle.blocks.proofs.Steps.{Stands, found, missed}
 use Rattle.lend.specs.Log.{cutAll, toTheEnd, tallied}
-use Rattle.lend.proofs.Passes.{Block, tallyFrom, tally-starts, tally-step, tally-torn, tally-end}
+use Rattle.lend.proofs.Passes.{turn, tallyFrom, tally-starts, tally-step, tally-torn, tally-end}
 use Rattle.lend.proofs.log.tally.Statement.{statement}
 use Rattle.lend.proofs.log.tally.Tie as tie
-
--- each block that was passed has a byte, so turns are left while bytes are
-turn : (n k p : ℕ) → k ≤ p → p < n → n - k ≡ suc (n - (k + 1))
-turn n k p h l = omega arith
-
-begins : (n : ℕ) → n ≡ n - 0
-begins n = omega arith
 
 abbrev Inv-loop : tie.InvT-loop
 Inv-loop s at₀ count₀ small₀ at count small = (at ≤ length s) × (count ≤ at) × (tallied (toTheEnd s) ≡ tallyFrom count small (cutAll (suc (length s - count)) (drop at s)))
@@ -26,7 +20,7 @@ abbrev μ-loop : tie.MeasureT-loop
 μ-loop s at₀ count₀ small₀ at count small = length s - at
 
 -- the block that a turn found
-step : (c : tie.After-known-told Inv-loop μ-loop) → let d = c .before .before .before .before .before in let g = c .before .length .given .0 in Block (now (d .before .before .args .s)) (d .loop .at) (g .1 .0) (g .1 .1 .0)
+step : (c : tie.After-known-told Inv-loop μ-loop) → let d = c .before .before .before .before .before in let g = c .before .length .given .0 in Stands (now (d .before .before .args .s)) (d .loop .at) (g .1 .0) (g .1 .1 .0)
 step c =
     let d = c .before .before .before .before .before in
     let g = c .before .length .given in
@@ -37,7 +31,7 @@ loop-holds c =
     let s = now (c .before .args .s) in (
       omega arith,
       omega arith,
-      tally-starts (toTheEnd s) ∙ ap (λ (n : ℕ). tallyFrom 0 true (cutAll (suc n) s)) (begins (length s)),
+      tally-starts (toTheEnd s) ∙ ap (λ (n : ℕ). tallyFrom 0 true (cutAll (suc n) s)) (sym (sub-zero (length s))),
     )
 
 next-requires : tie.Need-next-requires Inv-loop μ-loop
@@ -58,7 +52,7 @@ loop-again c =
     let s = now (c .before .before .before .before .before .before .before .args .s) in
     let f = step c in
     let e = l .inv .2 ∙ tally-step s (l .at) (f .2) (length s - l .count) (l .count) (l .small) in
-    (omega arith, omega arith, rw (f .0, f .1, ← turn (length s) (l .count) (l .at) (l .inv .1) (omega arith)) e)
+    (omega arith, omega arith, rw (f .0, f .1, ← turn (length s) (l .count) (omega arith)) e)
 
 enum-known-n : tie.Need-enum-known-n Inv-loop μ-loop
 enum-known-n c = search needs

@@ -1,5 +1,5 @@
 use Prim.Native.Nat.{_+_, _-_, _^_, _≤_, _<_}
-use mathlib.Core.Path.{_≡_, sym, _∙_}
+use mathlib.Core.Path.{_≡_, _∙_}
 use denote.Ref.{now}
 use native.Mathlib.Omega.{arith}
 use borrow.Author.Tests.{not-true, not-false}
@@ -7,7 +7,7 @@ use lib.ListN.{drop}
 use Rattle.wire.proofs.Tests.{tests}
 use Rattle.blocks.specs.Blocks.{isWhole, messagesOf}
 use Rattle.memx.specs.Read.{countIn, blocksIn, readMessages}
-use Rattle.blocks.proofs.Counting.{fills-inside, whole-is, length-cut}
+use Rattle.blocks.proofs.Counting.{fills-says, whole-is, length-cut}
 use borrow.Author.Needs.{needs}
 use Rattle.memx.proofs.reading.read_messages.Statement.{statement}
 use Rattle.memx.proofs.reading.read_messages.Tie as tie
@@ -16,8 +16,7 @@ use Rattle.memx.proofs.reading.read_messages.Tie as tie
 whole : (c : tie.After-exactly) → isWhole (blocksIn (now (c .before .before .before .before .args .d))) ≡ c .exactly .result
 whole c =
     let d = now (c .before .before .before .before .args .d) in
-    rw (← c .before .get2 .ensures)
-    (sym (c .exactly .ensures ∙ fills-inside d 20 (c .before .get2 .result) (omega arith)))
+    rw (← c .before .get2 .ensures) (fills-says d 20 (c .before .get2 .result) _ (omega arith) (c .exactly .ensures))
 
 returns : tie.Need-returns
 unfolding readMessages

@@ -1,17 +1,18 @@
 use Prim.Native.Nat.{ℕ, _+_, _-_, _^_, _≤_, _<_}
-use mathlib.Core.Path.{_≡_, sym, _∙_}
+use mathlib.Core.Path.{_≡_, sym}
 use mathlib.Core.List.{List}
 use denote.Ref.{now}
 use native.Mathlib.Omega.{arith}
 use borrow.Author.Tests.{not-true, not-false}
 use lib.ListN.{length}
 use Rattle.wire.specs.Checks.{taken, checked}
+use Rattle.wire.specs.Datagram.{limit}
 use Rattle.wire.proofs.Tests.{tests}
-use Rattle.wire.proofs.Settling.{refuses, writes, no-room, enough-room}
+use Rattle.wire.proofs.Settling.{refuses, lacks-room, has-room}
 use Rattle.blocks.specs.Blocks.{cut, isWhole, messagesOf}
-use Rattle.memx.specs.Packet.{Packet, messages, limit, blocksAt, laid}
+use Rattle.memx.specs.Packet.{Packet, messages, blocksAt, laid}
 use Rattle.memx.specs.Read.{read}
-use Rattle.blocks.proofs.Counting.{fills-inside}
+use Rattle.blocks.proofs.Counting.{fills-says}
 use Rattle.memx.proofs.Header.{length-laid, laid-put}
 use Rattle.memx.proofs.Verdicts.{laidChecks, laid-verdict}
 use borrow.Author.Needs.{needs}
@@ -34,7 +35,7 @@ verdict c =
 whole : (c : tie.After-exactly) → let a = c .before .before .before .before .args in isWhole (cut (a .count) (now (a .blocks))) ≡ c .exactly .result
 whole c =
     let a = c .before .before .before .before .args in
-    sym (c .exactly .ensures ∙ fills-inside (now (a .blocks)) 0 (a .count) (omega arith))
+    fills-says (now (a .blocks)) 0 (a .count) (c .exactly .result) (omega arith) (c .exactly .ensures)
 
 -- past its last test the packet is taken
 passed : (c : tie.Else5) → read (packet (c .before .before .before .before .before .before .before .before)) ≡ taken (taking (c .before .before .before .before .before .before .before .before))
@@ -98,7 +99,7 @@ returns-6 c =
     let s = c .before .before .before .before .before .before .before .before .before in
     let a = s .args in
     let l = length-laid (a .session .0) (a .first .0) (a .count) (now (a .blocks)) in
-    refuses _ _ 9 (rw (passed (c .before)) (no-room (packet s) (length (now (a .out))) (omega arith)))
+    lacks-room _ (packet s) (now (a .out)) (rw (passed (c .before))) (omega arith)
 
 put-header-requires : tie.Need-put-header-requires
 put-header-requires c κs = search needs
@@ -117,9 +118,8 @@ returns-7 c =
     let s = c .before .before .before .before .before .before .before .before .before .before .before .before .before .before .before .before .before .before .before .before .before in
     let a = s .args in
     let l = length-laid (a .session .0) (a .first .0) (a .count) (now (a .blocks)) in
-    let room : length (packet s) ≤ length (now (a .out)) = omega arith in
     let put = laid-put (now (a .out)) (a .session .0) (a .first .0) (a .count) (now (a .blocks)) _ _ _ (c .before .before .before .before .before .before .before .before .before .before .put-header .ensures) (c .before .before .before .before .before .before .put2 .ensures) (c .before .before .copy .ensures) in
-    writes _ _ (packet s) _ _ (rw (passed (c .before .before .before .before .before .before .before .before .before .before .before .before .before)) (enough-room (packet s) (length (now (a .out))) room)) (sym l) room put
+    has-room _ (packet s) (now (a .out)) (rw (passed (c .before .before .before .before .before .before .before .before .before .before .before .before .before))) _ _ (sym l) (omega arith) put
 
 pub write-messages-spec : {M : Type 1} → statement M
 write-messages-spec =

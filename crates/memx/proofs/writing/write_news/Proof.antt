@@ -1,12 +1,11 @@
-use Prim.Native.Nat.{_-_, _^_, _≤_}
+use Prim.Native.Nat.{_-_, _^_}
 use mathlib.Core.Path.{_≡_, sym}
 use mathlib.Core.List.{[], _∷_}
 use denote.Ref.{now}
 use native.Mathlib.Omega.{arith}
 use borrow.Author.Tests.{le-leb, lt-leb}
-use lib.ListN.{length}
 use Rattle.wire.specs.Checks.{_atMost_, taken, _else_, checked}
-use Rattle.wire.proofs.Settling.{refuses, writes, no-room, enough-room}
+use Rattle.wire.proofs.Settling.{refuses, lacks-room, has-room}
 use Rattle.memx.specs.Packet.{headed}
 use Rattle.memx.specs.Read.{news, read}
 use Rattle.memx.proofs.Header.{length-headed}
@@ -32,7 +31,7 @@ returns-2 c =
     let a = s .args in
     let packet = headed (a .kind) (a .session .0) (a .highest .0) [] in
     let l = length-headed (a .kind) (a .session .0) (a .highest .0) [] in
-    refuses _ _ 9 (rw (verdict s, le-leb (a .highest .0) (2 ^ 64 - 2) (omega arith)) (no-room packet (length (now (a .out))) (omega arith)))
+    lacks-room _ packet (now (a .out)) (rw (verdict s, le-leb (a .highest .0) (2 ^ 64 - 2) (omega arith))) (omega arith)
 
 put-header-requires : tie.Need-put-header-requires
 put-header-requires c κs = search needs
@@ -46,8 +45,7 @@ returns-3 c =
     let a = s .args in
     let packet = headed (a .kind) (a .session .0) (a .highest .0) [] in
     let l = length-headed (a .kind) (a .session .0) (a .highest .0) [] in
-    let room : length packet ≤ length (now (a .out)) = omega arith in
-    writes _ _ packet _ _ (rw (verdict s, le-leb (a .highest .0) (2 ^ 64 - 2) (omega arith)) (enough-room packet (length (now (a .out))) room)) (sym l) room (c .before .before .put-header .ensures)
+    has-room _ packet (now (a .out)) (rw (verdict s, le-leb (a .highest .0) (2 ^ 64 - 2) (omega arith))) _ _ (sym l) (omega arith) (c .before .before .put-header .ensures)
 
 pub write-news-spec : {M : Type 1} → statement M
 write-news-spec = tie.close (tie.spec returns returns-2 put-header-requires same-length returns-3)

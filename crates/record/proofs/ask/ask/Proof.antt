@@ -5,7 +5,7 @@ use Rattle.wire.specs.Checks.{Verdict, refused, taken, _into_}
 use Rattle.clock.specs.Answer.{saidOf}
 use Rattle.clock.specs.declared.answer.Said.{Said}
 use Rattle.clock.specs.declared.answer.Said.the-variants as said
-use Rattle.clock.proofs.Tests.{held, failed}
+use Rattle.wire.proofs.Tests.{held, failed}
 use Rattle.record.specs.Asking.{wish, asking, askedOf}
 use Rattle.record.specs.declared.Record.{Record}
 use Rattle.record.specs.declared.ask.Asked.{Asked}

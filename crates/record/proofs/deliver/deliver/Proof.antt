@@ -2,16 +2,16 @@ use mathlib.Core.Path.{_≡_, sym, _∙_}
 use denote.Ref.{now}
 use native.Mathlib.Omega.{arith}
 use borrow.Author.Needs.{needs}
-use Rattle.blocks.specs.Blocks.{placeAfter, placeOf}
-use Rattle.blocks.specs.declared.Place.the-variants as place
-use Rattle.record.proofs.Places.{place-inside}
+use Rattle.wire.specs.Checks.{taken}
+use Rattle.blocks.specs.Blocks.{placeAfter}
+use Rattle.blocks.proofs.Skipping.{place-inside, reached}
 use Rattle.record.proofs.Delivering.{hands-none, hands-over, hands}
 use Rattle.record.proofs.deliver.deliver.Statement.{statement}
 use Rattle.record.proofs.deliver.deliver.Tie as tie
 
 -- the place that was reached
-stands : (c : tie.After-known-told2) → let a = c .before .before .before .before .before .before .args in placeOf (placeAfter (a .k) (now (a .datagram)) (a .place)) ≡ place.At (c .before .start2 .given .0 .0)
-stands c = sym (c .before .before .before .skip .ensures) ∙ c .before .start2 .given .1
+stands : (c : tie.After-known-told2) → let a = c .before .before .before .before .before .before .args in placeAfter (a .k) (now (a .datagram)) (a .place) ≡ taken (c .before .start2 .given .0 .0)
+stands c = reached _ _ (sym (c .before .before .before .skip .ensures) ∙ c .before .start2 .given .1)
 
 skip-requires : tie.Need-skip-requires
 skip-requires c κs = search needs

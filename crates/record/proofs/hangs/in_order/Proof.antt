@@ -1,8 +1,8 @@
-use Prim.Native.Nat.{_≤_}
+use Prim.Native.Nat.{_+_, _-_, _≤_}
 use native.Mathlib.Omega.{arith}
 use borrow.Author.Tests.{le-leb}
 use borrow.Author.Needs.{needs}
-use Rattle.record.proofs.Tests.{one-less}
+use Rattle.wire.proofs.Tests.{leb-same}
 use Rattle.record.proofs.hangs.in_order.Statement.{statement}
 use Rattle.record.proofs.hangs.in_order.Tie as tie
 
@@ -16,7 +16,8 @@ returns-2 : tie.Need-returns-2
 returns-2 c =
     let a = c .before .args in
     let h : 1 ≤ a .next = omega arith in
-    rw (le-leb 1 (a .next) h, one-less (a .next) (a .top) h)
+    let same = leb-same (a .next - 1) (a .top) (a .next) (a .top + 1) (λ l. omega arith) (λ l. omega arith) in
+    rw (le-leb 1 (a .next) h, same)
 
 pub in-order-spec : {M : Type 1} → statement M
 in-order-spec = tie.close (tie.spec returns sub-result returns-2)

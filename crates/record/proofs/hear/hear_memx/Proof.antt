@@ -1,9 +1,9 @@
 use Prim.Native.Nat.{ℕ}
 use mathlib.Core.Path.{_≡_, refl}
-use mathlib.Core.Bool.{Bool, true, false}
 use denote.Ref.{now}
 use borrow.Author.Needs.{needs}
 use Rattle.wire.specs.Checks.{if_then_else_, _is_, Verdict, refused, taken, _into_}
+use Rattle.wire.proofs.Tests.{by-test}
 use Rattle.memx.specs.Packet as memx
 use Rattle.memx.specs.Read as memxRead
 use Rattle.memx.specs.Reading.{memxOf}
@@ -23,10 +23,7 @@ heardAs own (reading.Shutdown session highest) = if session .0 is own then heard
 heardAs own (reading.Messages session first count) = if session .0 is own then heard.Messages first count memx.blocksAt else heard.Refused 11
 
 if-owned : (own session : ℕ) (report : Report) → heardOf memx.blocksAt (owned own session report) ≡ (if session is own then heardOf memx.blocksAt (taken report) else heard.Refused 11)
-if-owned own session report = by (session is own) refl where
-  by : (b : Bool) → (session is own) ≡ b → heardOf memx.blocksAt (owned own session report) ≡ (if session is own then heardOf memx.blocksAt (taken report) else heard.Refused 11)
-  by true e = rw e
-  by false e = rw e
+if-owned own session report = by-test (session is own) (λ e. rw e) (λ e. rw e)
 
 by-answer : (own : ℕ) (v : Verdict memx.Packet) → heardOf memx.blocksAt (v into ofMemx own) ≡ heardAs own (memxOf v)
 by-answer own (refused n) = refl

@@ -1,5 +1,5 @@
 use borrow.Author.Needs.{needs}
-use Rattle.clock.proofs.Tests.{held, failed}
+use Rattle.wire.proofs.Tests.{held, failed}
 use Rattle.record.proofs.open.open_ufo.Statement.{statement}
 use Rattle.record.proofs.open.open_ufo.Tie as tie
 

@@ -4,7 +4,7 @@ use mathlib.Core.Path.{_≡_}
 use native.Mathlib.Omega.{arith}
 use borrow.Author.Tests.{le-leb, lt-leb, eq-eqb}
 use borrow.Author.Needs.{needs}
-use Rattle.clock.proofs.Tests.{held, failed}
+use Rattle.wire.proofs.Tests.{held, failed}
 use Rattle.record.specs.Record.{hangs}
 use Rattle.record.specs.Standing.{standing}
 use Rattle.record.proofs.Hanging.{hanging}

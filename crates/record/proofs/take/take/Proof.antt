@@ -3,7 +3,7 @@ use mathlib.Core.Bool.{true}
 use denote.Ref.{now}
 use borrow.Author.Needs.{needs}
 use Rattle.wire.specs.Fields.{Bytes}
-use Rattle.clock.proofs.Tests.{held, failed}
+use Rattle.wire.proofs.Tests.{held, failed}
 use Rattle.record.specs.Record.{hangs}
 use Rattle.record.specs.Hearing.{news, end}
 use Rattle.record.proofs.Answering.{answers-broken, answers-refusal, answers-none, fills-so, answers-messages}

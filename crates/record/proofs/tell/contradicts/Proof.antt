@@ -1,4 +1,4 @@
-use Rattle.record.proofs.Tests.{more-than}
+use Rattle.wire.proofs.Tests.{more-than}
 use Rattle.record.proofs.tell.contradicts.Statement.{statement}
 use Rattle.record.proofs.tell.contradicts.Tie as tie
 

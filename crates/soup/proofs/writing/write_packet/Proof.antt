@@ -4,10 +4,10 @@ use lib.Seq.{take-length}
 use denote.Ref.{now}
 use borrow.Author.Needs.{needs}
 use Rattle.wire.specs.Reply.{within}
-use Rattle.wire.proofs.Settling.{refuses}
+use Rattle.wire.proofs.Settling.{refuses, lacks-room, has-room}
 use Rattle.soup.specs.Read.{read}
 use Rattle.soup.specs.Writing.{sent}
-use Rattle.soup.proofs.Sending.{refused-by, taken-by, lacks-room, has-room}
+use Rattle.soup.proofs.Sending.{refused-by, taken-by}
 use Rattle.soup.proofs.writing.write_packet.Statement.{statement}
 use Rattle.soup.proofs.writing.write_packet.Tie as tie
 

@@ -7,12 +7,12 @@ use lib.Seq.{take-length}
 use borrow.Author.Needs.{needs}
 use borrow.Author.Tests.{not-true, not-false}
 use Rattle.wire.specs.Reply.{within}
-use Rattle.wire.proofs.Settling.{refuses}
+use Rattle.wire.proofs.Settling.{refuses, lacks-room, has-room}
 use Rattle.soup.specs.Packet.{line}
 use Rattle.soup.specs.Writing.{sent}
 use Rattle.soup.proofs.Lines.{length-line}
 use Rattle.soup.proofs.Laying.{stored-line}
-use Rattle.soup.proofs.Sending.{lacks-room, has-room, too-long, payload-decides}
+use Rattle.soup.proofs.Sending.{too-long, payload-decides}
 use Rattle.soup.proofs.writing.write_payload.Statement.{statement}
 use Rattle.soup.proofs.writing.write_payload.Tie as tie
 

@@ -1,5 +1,5 @@
 use Prim.Native.Nat.{_+_, _<_, _≤_}
-use mathlib.Core.Path.{_≡_, sym, _∙_}
+use mathlib.Core.Path.{_≡_, _∙_}
 use mathlib.Core.Bool.{true}
 use denote.Ref.{now}
 use lib.ListN.{length, drop}
@@ -8,7 +8,7 @@ use borrow.Author.Tests.{not-true, not-false, le-leb, ne-eqb}
 use Rattle.wire.proofs.Tests.{tests}
 use Rattle.blocks.specs.Blocks.{isWhole}
 use Rattle.ufo.specs.Down.{readS, blocksS}
-use Rattle.blocks.proofs.Counting.{count-cut}
+use Rattle.blocks.proofs.Counting.{fills-says, count-cut}
 use borrow.Author.Needs.{needs}
 use Rattle.ufo.proofs.down.read_messages.Statement.{statement}
 use Rattle.ufo.proofs.down.read_messages.Tie as tie
@@ -17,7 +17,7 @@ use Rattle.ufo.proofs.down.read_messages.Tie as tie
 framed : (c : tie.After-exactly) → isWhole (blocksS (now (c .before .before .before .before .args .d))) ≡ c .exactly .result
 framed c =
     let d = now (c .before .before .before .before .args .d) in
-    rw (← c .before .get2 .ensures) (sym (rw (le-leb 7 (length d) (c .before .before .if1 .left)) at (c .exactly .ensures)))
+    rw (← c .before .get2 .ensures) (fills-says d 7 _ _ (c .before .before .if1 .left) (c .exactly .ensures))
 
 returns : tie.Need-returns
 unfolding readS

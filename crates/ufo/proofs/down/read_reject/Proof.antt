@@ -1,6 +1,5 @@
-use Rattle.wire.proofs.Tests.{tests}
+use Rattle.wire.proofs.Tests.{tests, one-of-test, one-of-fails}
 use Rattle.ufo.specs.Down.{readJ}
-use Rattle.ufo.proofs.DownReason.{reason-check, reason-fails}
 use borrow.Author.Needs.{needs}
 use Rattle.ufo.proofs.down.read_reject.Statement.{statement}
 use Rattle.ufo.proofs.down.read_reject.Tie as tie
@@ -17,11 +16,11 @@ shared-slice-read-t9 c = search needs
 
 returns-2 : tie.Need-returns-2
 unfolding readJ
-returns-2 c = rw (reason-check _ (c .before .match .keys1)) (search tests)
+returns-2 c = rw (one-of-test _ 65 83 (c .before .match .keys1)) (search tests)
 
 returns-3 : tie.Need-returns-3
 unfolding readJ
-returns-3 c = rw (reason-fails _ (c .match .rest .1)) (search tests)
+returns-3 c = rw (one-of-fails _ 65 83 (c .match .rest .1)) (search tests)
 
 pub read-reject-spec : {M : Type 1} → statement M
 read-reject-spec =

@@ -1,34 +1,31 @@
 use mathlib.Core.Path.{_≡_, refl, _∙_}
 use denote.Ref.{now}
 use native.Mathlib.Omega.{arith}
-use Rattle.blocks.specs.Blocks.{blockAt, endAt}
-use Rattle.blocks.specs.declared.Block.the-variants as block
+use Rattle.blocks.specs.Blocks.{endAt}
+use Rattle.blocks.proofs.Found.{Found, finds}
 use Prim.Native.Nat.{_-_}
 use lib.ListN.{take, drop}
 use Rattle.wire.specs.Checks.{Verdict, refused}
 use Rattle.ufo.specs.Up.{Message, heartbeat, logout, readMessage, messageAt, upOf}
 use Rattle.ufo.specs.declared.up.Up.{Up}
-use Rattle.ufo.proofs.UpMessage.{is-L, is-T, is-U, is-R, is-O, is-none, alone, none-at, Found, finds, empty-at, answers}
+use Rattle.ufo.proofs.UpMessage.{is-L, is-T, is-U, is-R, is-O, is-none, alone, none-at, empty-at, answers}
 use borrow.Author.Needs.{needs}
 use Rattle.ufo.proofs.up.message_at.Statement.{statement}
 use Rattle.ufo.proofs.up.message_at.Tie as tie
 
 -- the block that was found
-at : (c : tie.Else1) → let g = c .before .before .start .given in let a = c .before .before .before .before .before .before .args in blockAt (now (a .d)) (a .place) ≡ block.At (g .0 .0) (g .0 .1 .0) (g .0 .1 .1 .0)
-at c = cc (c .before .before .before .before .next .ensures, c .before .before .start .given .1)
-
-finds-at : (c : tie.Else1) → let g = c .before .before .start .given in let a = c .before .before .before .before .before .before .args in Found (now (a .d)) (a .place) (g .0 .0) (g .0 .1 .0) (g .0 .1 .1 .0) (at c)
+finds-at : (c : tie.After-known-told2) → let g = c .before .start .given in let a = c .before .before .before .before .before .args in Found (now (a .d)) (a .place) (g .0 .0) (g .0 .1 .0) (g .0 .1 .1 .0)
 finds-at c =
-    let g = c .before .before .start .given in
-    let a = c .before .before .before .before .before .before .args in
-    finds (now (a .d)) (a .place) (g .0 .0) (g .0 .1 .0) (g .0 .1 .1 .0) (at c)
+    let g = c .before .start .given in
+    let a = c .before .before .before .before .before .args in
+    finds (now (a .d)) (a .place) (g .0 .0) (g .0 .1 .0) (g .0 .1 .1 .0) (cc (c .before .before .before .next .ensures, g .1))
 
 -- what the reader of its type answers is the answer
 answered : (c : tie.Else1) → let g = c .before .before .start .given in let a = c .before .before .before .before .before .before .args in (r : Up) (v : Verdict Message) → r ≡ upOf (g .0 .1 .1 .0) v → readMessage (take (g .0 .1 .1 .0 - g .0 .0) (drop (g .0 .0) (now (a .d)))) ≡ v → r ≡ upOf (endAt (now (a .d)) (a .place)) (messageAt (now (a .d)) (a .place))
 answered c r v e q =
     let g = c .before .before .start .given in
     let a = c .before .before .before .before .before .before .args in
-    answers (now (a .d)) (a .place) (g .0 .0) (g .0 .1 .0) (g .0 .1 .1 .0) (at c) r v (c .if1 .left) e q
+    answers (now (a .d)) (a .place) (g .0 .0) (g .0 .1 .0) (g .0 .1 .1 .0) (finds-at (c .before)) r v (c .if1 .left) e q
 
 next-requires : tie.Need-next-requires
 next-requires c κs = search needs
@@ -43,19 +40,19 @@ returns : tie.Need-returns
 returns c =
     let g = c .before .before .start .given in
     let a = c .before .before .before .before .before .before .args in
-    empty-at (now (a .d)) (a .place) (g .0 .0) (g .0 .1 .0) (g .0 .1 .1 .0) (cc (c .before .before .before .before .next .ensures, g .1)) (c .if1 .taken)
+    empty-at (now (a .d)) (a .place) (g .0 .0) (g .0 .1 .0) (g .0 .1 .1 .0) (finds-at (c .before)) (c .if1 .taken)
 
 sub-m : tie.Need-sub-m
-sub-m c = let f = finds-at c in omega arith
+sub-m c = let f = finds-at (c .before) in omega arith
 
 part-m-start : tie.Need-part-m-start
-part-m-start c = let f = finds-at c in omega arith
+part-m-start c = let f = finds-at (c .before) in omega arith
 
 part-m-end : tie.Need-part-m-end
-part-m-end c = let f = finds-at c in omega arith
+part-m-end c = let f = finds-at (c .before) in omega arith
 
 shared-slice-read-match2 : tie.Need-shared-slice-read-match2
-shared-slice-read-match2 c = let f = finds-at (c .before .before) in omega arith
+shared-slice-read-match2 c = let f = finds-at (c .before .before .before) in omega arith
 
 read-l-requires : tie.Need-read-l-requires
 read-l-requires c κs = search needs
@@ -64,7 +61,7 @@ read-t-requires : tie.Need-read-t-requires
 read-t-requires c κs = search needs
 
 read-u-requires : tie.Need-read-u-requires
-read-u-requires c κs = let f = finds-at (c .before .before .before) in omega arith
+read-u-requires c κs = let f = finds-at (c .before .before .before .before) in omega arith
 
 alone-requires : tie.Need-alone-requires
 alone-requires c κs = search needs

@@ -5,8 +5,9 @@ use native.Mathlib.Omega.{arith}
 use borrow.Author.Needs.{needs}
 use lib.ListN.{length}
 use Rattle.blocks.specs.Blocks.{upstream, messagesOf}
+use Rattle.blocks.proofs.Cutting.{Framed, framed}
 use Rattle.ufo.specs.Up.{nextOf}
-use Rattle.ufo.proofs.UpWalk.{Framed, framed, Reached, reached-none, reached-more, reached-stop, reached-end}
+use Rattle.ufo.proofs.UpWalk.{Reached, reached-none, reached-more, reached-stop, reached-end}
 use Rattle.ufo.proofs.up.read_each.Statement.{statement}
 use Rattle.ufo.proofs.up.read_each.Tie as tie
 
@@ -18,7 +19,7 @@ abbrev μ-loop : tie.MeasureT-loop
 
 whole : (c : tie.After-shared-slice-known Inv-loop μ-loop) → let d = now (c .before .args .d) in Framed d (messagesOf (upstream d))
 whole c =
-    framed (now (c .before .args .d)) (λ i. c .shared-slice-known .given i .fits) (c .before .pre .0) (c .before .pre .1)
+    framed (now (c .before .args .d)) (λ i. c .shared-slice-known .given i .fits) (c .before .pre .0) (omega (arith, c .before .pre .1))
 
 -- a turn that went on
 onward : (c : tie.After-known-told Inv-loop μ-loop) → let l = c .before .before .before .before .before .before .loop in let n = c .before .next .given .0 .0 in Reached (now (c .before .before .before .before .before .before .before .before .args .d)) n (l .count + 1) × (l .at < n)

@@ -3,8 +3,9 @@ use mathlib.Core.Bool.{true}
 use denote.Ref.{now}
 use Rattle.wire.proofs.Tests.{tests}
 use Rattle.blocks.specs.Blocks.{upstream, isWhole}
+use Rattle.blocks.proofs.Counting.{whole-count}
 use Rattle.ufo.specs.Up.{readUp, upstreamOf}
-use Rattle.ufo.proofs.UpPacket.{opened, torn-count, whole-count, whole-read}
+use Rattle.ufo.proofs.UpPacket.{opened, torn-count, whole-read}
 use borrow.Author.Needs.{needs}
 use Rattle.ufo.proofs.up.read_up.Statement.{statement}
 use Rattle.ufo.proofs.up.read_up.Tie as tie

@@ -10,8 +10,9 @@ use native.Mathlib.Omega.{arith}
 use Rattle.wire.specs.Fields.{bytesOf}
 use Rattle.wire.specs.Checks.{_is_, _atMost_, _else_, checked}
 use Rattle.wire.specs.Reply.{within}
-use Rattle.wire.proofs.Settling.{refuses, writes, no-room, enough-room}
+use Rattle.wire.proofs.Settling.{refuses, lacks-room, has-room}
 use Rattle.blocks.specs.Blocks.{cut, isWhole}
+use Rattle.blocks.proofs.Counting.{fills-says}
 use Rattle.ufo.specs.Down.{laid}
 use Rattle.ufo.specs.WriteDown.{messagesReply}
 use Rattle.ufo.proofs.DownLaid.{length-laid, laid-stored}
@@ -22,7 +23,9 @@ use Rattle.ufo.proofs.write_down.write_messages.Tie as tie
 
 -- what the walk over the blocks found
 found : (c : tie.After-exactly) → let a = c .before .before .before .before .args in isWhole (cut (a .count) (now (a .blocks))) ≡ c .exactly .result
-found c = sym (rw (le-leb 0 (length (now (c .before .before .before .before .args .blocks))) (omega arith)) at (c .exactly .ensures))
+found c =
+    let a = c .before .before .before .before .args in
+    fills-says (now (a .blocks)) 0 (a .count) (c .exactly .result) (omega arith) (c .exactly .ensures)
 
 -- the blocks fill exactly: the number is left to check
 framed : (c : tie.Else2) → let a = c .before .before .before .before .before .args in messagesReply (a .first .0) (a .count) (now (a .blocks)) (length (now (a .out))) ≡ checked ((not (a .first .0 is 0) else 6) ∷ (a .first .0 + a .count atMost 2 ^ 32 - 1 else 7) ∷ []) (within (length (now (a .out))) (laid (a .first .0) (a .count) (now (a .blocks))))
@@ -73,7 +76,7 @@ returns-5 c =
     let a = c .before .before .before .before .before .before .before .before .args in
     let packet = laid (a .first .0) (a .count) (now (a .blocks)) in
     let short : length (now (a .out)) < length packet = rw length-laid (c .if5 .taken) in
-    refuses _ _ 9 (fits (c .before) ∙ no-room packet (length (now (a .out))) short)
+    lacks-room _ packet (now (a .out)) (fits (c .before)) short
 
 slice-write-out : tie.Need-slice-write-out
 slice-write-out c = search needs
@@ -108,8 +111,7 @@ returns-6 c =
     let room : length packet ≤ length out = rw length-laid (e .if5 .left) in
     let counted = n .put2 .ensures ∙ ap (λ (o : List ℕ). sets o 5 (bytesOf 2 (a .count))) (f .put4 .ensures) in
     let copied = w .copy .ensures ∙ (ap (sets (n .put2 .last .0) 7) (take-length s) ∙ ap (λ (o : List ℕ). sets o 7 s) counted) in
-    writes _ out packet _ (7 + length s)
-    (fits (e .before) ∙ enough-room packet (length out) room)
+    has-room _ packet out (fits (e .before)) _ (7 + length s)
     (sym (length-laid (a .first .0) (a .count) s))
     room
     (copied ∙ laid-stored (a .first .0) (a .count) s out)

@@ -1,11 +1,10 @@
-use Prim.Native.Nat.{_≤_}
 use mathlib.Core.Path.{_∙_}
 use mathlib.Core.List.{_∷_}
 use denote.Ref.{now}
 use native.Mathlib.Omega.{arith}
 use lib.ListN.{length}
 use lib.Seq.{take-length}
-use Rattle.wire.proofs.Settling.{refuses, writes, no-room, enough-room}
+use Rattle.wire.proofs.Settling.{refuses, lacks-room, has-room}
 use Rattle.wire.proofs.Tests.{tests}
 use Rattle.blocks.specs.Blocks.{frame}
 use Rattle.blocks.proofs.Frames.{length-frame}
@@ -26,7 +25,7 @@ returns-2 c =
     let a = c .before .before .before .before .args in
     let packet = frame (85 ∷ now (a .«data»)) in
     let l = length-frame (85 ∷ now (a .«data»)) in
-    refuses _ _ 9 (reply-unsequenced (now (a .«data»)) (length (now (a .out))) ∙ rw (no-room packet (length (now (a .out))) (omega arith)) (search tests))
+    lacks-room _ packet (now (a .out)) (reply-unsequenced (now (a .«data»)) (length (now (a .out))) ∙ search tests) (omega arith)
 
 add-put-head : tie.Need-add-put-head
 add-put-head c = search needs
@@ -51,8 +50,7 @@ returns-3 c =
     let a = c .before .before .before .before .before .before .before .before .before .before .before .before .args in
     let packet = frame (85 ∷ now (a .«data»)) in
     let l = length-frame (85 ∷ now (a .«data»)) in
-    let h : length packet ≤ length (now (a .out)) = omega arith in
-    writes _ _ packet _ _ (reply-unsequenced (now (a .«data»)) (length (now (a .out))) ∙ rw (enough-room packet (length (now (a .out))) h) (search tests)) (omega arith) h (rw (c .before .before .copy .ensures, c .before .before .before .before .before .before .put-head .ensures, take-length (now (a .«data»))) (laid-unsequenced (now (a .out)) (now (a .«data»))))
+    has-room _ packet (now (a .out)) (reply-unsequenced (now (a .«data»)) (length (now (a .out))) ∙ search tests) _ _ (omega arith) (omega arith) (rw (c .before .before .copy .ensures, c .before .before .before .before .before .before .put-head .ensures, take-length (now (a .«data»))) (laid-unsequenced (now (a .out)) (now (a .«data»))))
 
 pub write-unsequenced-spec : {M : Type 1} → statement M
 write-unsequenced-spec =

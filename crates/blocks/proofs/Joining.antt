@@ -1,4 +1,4 @@
--- Whole blocks after whole blocks are whole blocks together; parts of messages and of their blocks.
+-- Whole blocks after whole blocks are whole blocks together.
 -- Assumes nothing.
 use Prim.Native.Nat.{ℕ, zero, suc, _+_, _≤_}
 use mathlib.Core.List.{List, [], _∷_, _++_}
@@ -7,12 +7,11 @@ use mathlib.Core.Bool.{true}
 use native.Mathlib.Nat.{zero-add, suc-add}
 use native.Mathlib.Omega.{arith}
 use borrow.Author.Tests.{le-leb, leb-true}
-use lib.ListN.{length, take, drop, length-append, length-drop, take-append-drop, List·getD-append}
+use lib.ListN.{length, drop, length-append, length-drop, List·getD-append}
 use lib.Seq.{take-append-le, drop-append-le}
 use Rattle.wire.proofs.Width.{be-two}
-use Rattle.blocks.specs.Blocks.{frames, stated, there, first, rest, torn, whole, cut, messagesOf, Each}
-use Rattle.blocks.proofs.Frames.{frames-append}
+use Rattle.blocks.specs.Blocks.{stated, there, first, rest, torn, whole, cut, messagesOf}
 use Rattle.blocks.proofs.Cutting.{not-torn, stepped}
 
 -- a block that is all there is the same, whatever follows
 module _ (a b : List ℕ) (e : there a ≡ true) where
@@ -50,19 +49,3 @@ module _ (k : ℕ) (b : List ℕ) (ys : List (List ℕ)) (f : cut k b ≡ whole 
       let more = cut-joined n (rest a) (p .others) (p .cuts) in
       rw (suc-add n k, there-joined a b (p .is-there), first-joined a b (p .is-there), rest-joined a b (p .is-there), more)
       (ap (λ (os : List (List ℕ)). whole (os ++ ys)) (sym (p .are)))
-
--- what holds of each message holds of each in a part
-module _ (P : List ℕ → Type 0) where
-  pub each-take : (k : ℕ) (ms : List (List ℕ)) → Each P ms → Each P (take k ms)
-  each-take zero ms h = tt
-  each-take (suc k) [] h = tt
-  each-take (suc k) (m ∷ ms) h = (h .0, each-take k ms (h .1))
-
-  pub each-drop : (k : ℕ) (ms : List (List ℕ)) → Each P ms → Each P (drop k ms)
-  each-drop zero ms h = h
-  each-drop (suc k) [] h = tt
-  each-drop (suc k) (m ∷ ms) h = each-drop k ms (h .1)
-
--- the blocks of the first messages, and then those of the others
-pub frames-split : (k : ℕ) (ms : List (List ℕ)) → frames ms ≡ frames (take k ms) ++ frames (drop k ms)
-frames-split k ms = rw (← frames-append (take k ms) (drop k ms), take-append-drop k ms)
