@@ -1,168 +1,56 @@
-// The session record: taking datagrams, and how it stands.
-use crate::flag;
-use crate::name::name_of;
-use record::Record;
-use record::Session;
-use record::standing;
-use record::standing::Standing;
-use record::take;
-use record::take::Taken;
-use wire::kinds::Sequence;
-use wire::kinds::SessionId;
-use wire::refusal;
+// The session record: opened, taken into, how it stands, what it asks for.
+use flat_clock::FlatPatience;
+use flat_clock::FlatSheet;
+use flat_record::asking;
+use flat_record::asking::FlatAsked;
+use flat_record::keeping;
+use flat_record::keeping::FlatRecord;
+use flat_record::keeping::FlatStanding;
+use flat_record::keeping::FlatTaken;
+use flat_record::opening;
+use flat_record::opening::FlatOpened;
 ghost use mathlib.Core.Path.{_≡_};
 ghost use lib.ListN.{length};
-ghost use Rattle.wire.specs.Checks.{_into_};
-ghost use Rattle.record.specs.Taking.{taking};
-ghost use Rattle.record.specs.Standing.{standing, standingOf};
-ghost use Rattle.hinurapay.specs.Keeping.{sessionOf, recordOf, readable, knownRecord, flatRecord, flatTaken, FlatAnswered, flatStanding};
+ghost use Rattle.flat_record.specs.Asking.{askAnswer};
+ghost use Rattle.flat_record.specs.Keeping.{FlatAnswered, takeVerdict, standingAnswer};
+ghost use Rattle.flat_record.specs.Opening.{openUfo, openMemx};
 
-// style: 1 UFO, with the name; 2 MEMX-UDP, with the session.
-#[repr(C)]
-pub struct FlatRecord {
-    pub style: u8,
-    pub ended: u8,
-    pub name: [u8; 10],
-    pub session: u64,
-    pub next: u64,
-    pub top: u64,
-    pub asked: u64,
-}
-
-#[repr(C)]
-pub struct FlatTaken {
-    pub refusal: u64,
-    pub bytes: u64,
-    pub messages: u64,
-    pub after: FlatRecord,
-}
-
-#[repr(C)]
-pub struct FlatStanding {
-    pub refusal: u64,
-    pub complete: u8,
-    pub missing: u8,
-    pub first: u64,
-    pub last: u64,
-}
-
-// A MEMX record's name and a UFO record's session are not looked at.
-fn session_of(given: FlatRecord) -> Session
-    ensures { λ r. ⌜ r ≡ sessionOf given ⌝ }
+#[no_mangle]
+pub extern "C" fn hp_open_ufo(name: &[u8; 10]) -> FlatOpened
+    ensures { λ r. ⌜ r ≡ openUfo (now (name .entry)) ⌝ }
 {
-    let style = given.style;
-    let name = given.name;
-    if style == 1 {
-        Session::Ufo(name_of(&name))
-    } else {
-        Session::Memx(SessionId(given.session))
-    }
+    opening::open_ufo(name)
 }
 
-pub(crate) fn is_readable(given: FlatRecord) -> bool
-    ensures { λ r. ⌜ r ≡ readable given ⌝ }
+#[no_mangle]
+pub extern "C" fn hp_open_memx(session: u64) -> FlatOpened
+    ensures { λ r. ⌜ r ≡ openMemx session ⌝ }
 {
-    let style = given.style;
-    ((style == 1) | (style == 2)) & flag::is_flag(given.ended)
-}
-
-pub(crate) fn record_of(given: FlatRecord) -> Record
-    ensures { λ r. ⌜ r ≡ recordOf given ⌝ }
-{
-    Record {
-        session: session_of(given),
-        next: Sequence(given.next),
-        top: Sequence(given.top),
-        ended: given.ended == 1,
-        asked: Sequence(given.asked),
-    }
-}
-
-pub(crate) fn flat_record(given: FlatRecord, after: Record) -> FlatRecord
-    ensures { λ r. ⌜ r ≡ flatRecord given after ⌝ }
-{
-    let next = after.next;
-    let top = after.top;
-    let asked = after.asked;
-    let ended = flag::byte_of(after.ended);
-    let mut kept = given;
-    kept.ended = ended;
-    kept.next = next.0;
-    kept.top = top.0;
-    kept.asked = asked.0;
-    kept
-}
-
-fn flat_taken(given: FlatRecord, answer: Taken) -> FlatTaken
-    ensures { λ r. ⌜ r ≡ flatTaken given answer ⌝ }
-{
-    match answer {
-        Taken::Refused(number) => FlatTaken {
-            refusal: number as u64,
-            bytes: 0,
-            messages: 0,
-            after: given,
-        },
-        Taken::Took {
-            bytes,
-            messages,
-            after,
-        } => FlatTaken {
-            refusal: 0,
-            bytes: bytes as u64,
-            messages: messages as u64,
-            after: flat_record(given, after),
-        },
-    }
-}
-
-fn flat_standing(standing: Standing) -> FlatStanding
-    ensures { λ r. ⌜ r ≡ flatStanding standing ⌝ }
-{
-    let mut flat = FlatStanding {
-        refusal: 0,
-        complete: 0,
-        missing: 0,
-        first: 0,
-        last: 0,
-    };
-    match standing {
-        Standing::Refused(number) => {
-            flat.refusal = number as u64;
-            flat
-        }
-        Standing::Complete => {
-            flat.complete = 1;
-            flat
-        }
-        Standing::Ongoing => flat,
-        Standing::Missing { first, last } => {
-            flat.missing = 1;
-            flat.first = first.0;
-            flat.last = last.0;
-            flat
-        }
-    }
+    opening::open_memx(session)
 }
 
 #[no_mangle]
 pub extern "C" fn hp_take(given: FlatRecord, datagram: &[u8], out: &mut [u8]) -> FlatTaken
-    ensures { λ r. ⌜ FlatAnswered (knownRecord given into λ k. taking k (now (datagram .entry)) (length (now (out .entry)))) given (now (out .entry)) r (now (out .exit)) ⌝ }
+    ensures { λ r. ⌜ FlatAnswered (takeVerdict given (now (datagram .entry)) (length (now (out .entry)))) given (now (out .entry)) r (now (out .exit)) ⌝ }
 {
-    if is_readable(given) {
-        flat_taken(given, take::take(record_of(given), datagram, out))
-    } else {
-        flat_taken(given, Taken::Refused(refusal::BROKEN))
-    }
+    keeping::take(given, datagram, out)
 }
 
 #[no_mangle]
 pub extern "C" fn hp_standing_of(given: FlatRecord) -> FlatStanding
-    ensures { λ r. ⌜ r ≡ flatStanding (standingOf (knownRecord given into standing)) ⌝ }
+    ensures { λ r. ⌜ r ≡ standingAnswer given ⌝ }
 {
-    if is_readable(given) {
-        flat_standing(standing::standing_of(record_of(given)))
-    } else {
-        flat_standing(Standing::Refused(refusal::BROKEN))
-    }
+    keeping::standing_of(given)
+}
+
+#[no_mangle]
+pub extern "C" fn hp_ask(
+    given: FlatRecord,
+    sheet: FlatSheet,
+    patience: FlatPatience,
+    elapsed: f64,
+) -> FlatAsked
+    ensures { λ r. ⌜ r ≡ askAnswer given sheet patience elapsed ⌝ }
+{
+    asking::ask(given, sheet, patience, elapsed)
 }

@@ -1,13 +1,6 @@
-// The face: hinurapay.h as a static library, each function a thin flattening over a room's function.
-pub mod asking;
-pub mod block;
-mod flag;
+// The face: hinurapay.h as a static library, each function that of a flat room under the header's name.
 pub mod keeping;
 pub mod lending;
-mod name;
-pub mod opening;
-pub mod packets;
-pub mod readers;
+pub mod reading;
 pub mod waiting;
-pub mod writers;
-mod wrote;
+pub mod writing;

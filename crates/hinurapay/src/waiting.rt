@@ -1,172 +1,36 @@
 // Timing answers, waiting for them, and silence.
-use crate::flag;
-use clock::answer::Said;
-use clock::patience;
-use clock::patience::Patience;
-use clock::patience::Wait;
-use clock::sheet;
-use clock::sheet::Sheet;
-use clock::sheet::Timed;
-use clock::silence;
-use wire::kinds::Tick;
-use wire::refusal;
+use flat_clock::FlatPatience;
+use flat_clock::FlatSaid;
+use flat_clock::FlatSheet;
+use flat_clock::FlatTimed;
+use flat_clock::FlatWait;
 ghost use mathlib.Core.Path.{_≡_};
-ghost use Rattle.wire.specs.Checks.{_into_};
-ghost use Rattle.clock.specs.Answer.{saidOf};
-ghost use Rattle.clock.specs.Silence.{exceeds};
-ghost use Rattle.clock.specs.Sheet.{timing, timedOf};
-ghost use Rattle.clock.specs.Patience.{waiting, waitOf};
-ghost use Rattle.hinurapay.specs.Waiting.{sheetOf, knownSheet, flatSheet, flatTimed, ruleOf, flatWait, flatSaid};
-
-#[repr(C)]
-pub struct FlatSheet {
-    pub mean: f64,
-    pub spread: f64,
-    pub timed: u8,
-}
-
-// The rule: 0 never, 1 fixed, 2 measured between the first and the second.
-#[repr(C)]
-pub struct FlatPatience {
-    pub rule: u8,
-    pub first: f64,
-    pub second: f64,
-}
-
-#[repr(C)]
-pub struct FlatTimed {
-    pub refusal: u64,
-    pub sheet: FlatSheet,
-}
-
-#[repr(C)]
-pub struct FlatWait {
-    pub refusal: u64,
-    pub waits: u8,
-    pub milliseconds: f64,
-}
-
-#[repr(C)]
-pub struct FlatSaid {
-    pub refusal: u64,
-    pub yes: u8,
-}
-
-pub(crate) fn sheet_of(given: FlatSheet) -> Sheet
-    ensures { λ r. ⌜ r ≡ sheetOf given ⌝ }
-{
-    Sheet {
-        mean: given.mean,
-        spread: given.spread,
-        timed: given.timed == 1,
-    }
-}
-
-fn flat_sheet(sheet: Sheet) -> FlatSheet
-    ensures { λ r. ⌜ r ≡ flatSheet sheet ⌝ }
-{
-    FlatSheet {
-        mean: sheet.mean,
-        spread: sheet.spread,
-        timed: flag::byte_of(sheet.timed),
-    }
-}
-
-fn flat_timed(given: FlatSheet, answer: Timed) -> FlatTimed
-    ensures { λ r. ⌜ r ≡ flatTimed given answer ⌝ }
-{
-    match answer {
-        Timed::Refused(number) => FlatTimed {
-            refusal: number as u64,
-            sheet: given,
-        },
-        Timed::Sheet(after) => FlatTimed {
-            refusal: 0,
-            sheet: flat_sheet(after),
-        },
-    }
-}
-
-// A rule that the desk doesn't know is refused as one out of range is: it is handed on as a wait of nothing.
-pub(crate) fn rule_of(given: FlatPatience) -> Patience
-    ensures { λ r. ⌜ r ≡ ruleOf given ⌝ }
-{
-    let rule = given.rule;
-    match rule {
-        0 => Patience::Never,
-        1 => Patience::Fixed(given.first),
-        2 => Patience::Measured(given.first, given.second),
-        _ => Patience::Fixed(0.0),
-    }
-}
-
-fn flat_wait(wait: Wait) -> FlatWait
-    ensures { λ r. ⌜ r ≡ flatWait wait ⌝ }
-{
-    match wait {
-        Wait::Refused(number) => FlatWait {
-            refusal: number as u64,
-            waits: 0,
-            milliseconds: 0.0,
-        },
-        Wait::Never => FlatWait {
-            refusal: 0,
-            waits: 0,
-            milliseconds: 0.0,
-        },
-        Wait::After(milliseconds) => FlatWait {
-            refusal: 0,
-            waits: 1,
-            milliseconds,
-        },
-    }
-}
-
-fn flat_said(said: Said) -> FlatSaid
-    ensures { λ r. ⌜ r ≡ flatSaid said ⌝ }
-{
-    match said {
-        Said::Refused(number) => FlatSaid {
-            refusal: number as u64,
-            yes: 0,
-        },
-        Said::Yes => FlatSaid { refusal: 0, yes: 1 },
-        Said::No => FlatSaid { refusal: 0, yes: 0 },
-    }
-}
+ghost use Rattle.flat_clock.specs.Waiting.{timeAnswer, waitAnswer, lineLost, heartbeatDue};
 
 #[no_mangle]
 pub extern "C" fn hp_time(given: FlatSheet, sample: f64) -> FlatTimed
-    ensures { λ r. ⌜ r ≡ flatTimed given (timedOf (knownSheet given into λ s. timing s sample)) ⌝ }
+    ensures { λ r. ⌜ r ≡ timeAnswer given sample ⌝ }
 {
-    if flag::is_flag(given.timed) {
-        flat_timed(given, sheet::time(sheet_of(given), sample))
-    } else {
-        flat_timed(given, Timed::Refused(refusal::BROKEN))
-    }
+    flat_clock::time(given, sample)
 }
 
 #[no_mangle]
 pub extern "C" fn hp_wait_of(given: FlatSheet, patience: FlatPatience) -> FlatWait
-    ensures { λ r. ⌜ r ≡ flatWait (waitOf (knownSheet given into λ s. waiting s (ruleOf patience))) ⌝ }
+    ensures { λ r. ⌜ r ≡ waitAnswer given patience ⌝ }
 {
-    if flag::is_flag(given.timed) {
-        flat_wait(patience::wait_of(sheet_of(given), rule_of(patience)))
-    } else {
-        flat_wait(Wait::Refused(refusal::BROKEN))
-    }
+    flat_clock::wait_of(given, patience)
 }
 
 #[no_mangle]
 pub extern "C" fn hp_line_lost(now: u64, heard: u64) -> FlatSaid
-    ensures { λ r. ⌜ r ≡ flatSaid (saidOf (exceeds 10000 (record { 0 = now }) (record { 0 = heard }))) ⌝ }
+    ensures { λ r. ⌜ r ≡ lineLost now heard ⌝ }
 {
-    flat_said(silence::line_lost(Tick(now), Tick(heard)))
+    flat_clock::line_lost(now, heard)
 }
 
 #[no_mangle]
 pub extern "C" fn hp_heartbeat_due(now: u64, sent: u64) -> FlatSaid
-    ensures { λ r. ⌜ r ≡ flatSaid (saidOf (exceeds 1000 (record { 0 = now }) (record { 0 = sent }))) ⌝ }
+    ensures { λ r. ⌜ r ≡ heartbeatDue now sent ⌝ }
 {
-    flat_said(silence::heartbeat_due(Tick(now), Tick(sent)))
+    flat_clock::heartbeat_due(now, sent)
 }

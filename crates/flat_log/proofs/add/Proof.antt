@@ -1,0 +1,41 @@
+use borrow.Author.Needs.{needs}
+use mathlib.Core.Path.{refl}
+use Rattle.flat_log.proofs.add.Statement.{statement}
+use Rattle.flat_log.proofs.add.Tie as tie
+
+is-flag-requires : tie.Need-is-flag-requires
+is-flag-requires c κs = search needs
+
+log-of-requires : tie.Need-log-of-requires
+log-of-requires c κs = search needs
+
+add-requires : tie.Need-add-requires
+add-requires c κs = search needs
+
+flat-logged-requires : tie.Need-flat-logged-requires
+flat-logged-requires c κs = search needs
+
+flat-logged-requires-2 : tie.Need-flat-logged-requires-2
+flat-logged-requires-2 c κs = search needs
+
+same-length : tie.Need-same-length
+same-length c = search needs
+
+returns : tie.Need-returns
+returns c = rw (← c .before .before .before .before .before .before .before .is-flag .ensures, c .before .before .before .before .before .before .if1 .taken, ← c .before .before .before .before .before .log-of .ensures) (record { answer = rw (← c .before .before .before .add .ensures .answer) (c .flat-logged .ensures); bytes = c .before .before .before .add .ensures .bytes })
+
+returns-2 : tie.Need-returns-2
+returns-2 c = rw (← c .before .before .is-flag .ensures, c .before .if1 .left) (record { answer = c .flat-logged2 .ensures; bytes = refl })
+
+pub add-spec : {M : Type 1} → statement M
+add-spec =
+    tie.close
+    (tie.spec
+    is-flag-requires
+    log-of-requires
+    add-requires
+    flat-logged-requires
+    flat-logged-requires-2
+    same-length
+    returns
+    returns-2)

@@ -1,0 +1,42 @@
+use borrow.Author.Needs.{needs}
+use mathlib.Core.Path.{refl}
+use Rattle.flat.proofs.Flattening.{flattens}
+use Rattle.flat_log.proofs.answer.Statement.{statement}
+use Rattle.flat_log.proofs.answer.Tie as tie
+
+is-flag-requires : tie.Need-is-flag-requires
+is-flag-requires c κs = search needs
+
+log-of-requires : tie.Need-log-of-requires
+log-of-requires c κs = search needs
+
+answer-requires : tie.Need-answer-requires
+answer-requires c κs = search needs
+
+wrote-of-requires : tie.Need-wrote-of-requires
+wrote-of-requires c κs = search needs
+
+wrote-of-requires-2 : tie.Need-wrote-of-requires-2
+wrote-of-requires-2 c κs = search needs
+
+same-length : tie.Need-same-length
+same-length c = search needs
+
+returns : tie.Need-returns
+returns c = rw (← c .before .before .before .before .before .before .before .is-flag .ensures, c .before .before .before .before .before .before .if1 .taken, ← c .before .before .before .before .before .log-of .ensures) (flattens (c .before .before .before .answer .ensures) (c .wrote-of .ensures))
+
+returns-2 : tie.Need-returns-2
+returns-2 c = rw (← c .before .before .is-flag .ensures, c .before .if1 .left) (record { answer = c .wrote-of2 .ensures; bytes = refl })
+
+pub answer-spec : {M : Type 1} → statement M
+answer-spec =
+    tie.close
+    (tie.spec
+    is-flag-requires
+    log-of-requires
+    answer-requires
+    wrote-of-requires
+    wrote-of-requires-2
+    same-length
+    returns
+    returns-2)

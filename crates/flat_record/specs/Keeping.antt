@@ -1,0 +1,80 @@
+-- Session records: what is taken, and how they stand.
+-- Assumes nothing.
+use Prim.Native.Nat.{ℕ}
+use mathlib.Core.Path.{_≡_}
+use mathlib.Core.Bool.{Bool, _&&_, _||_}
+use mathlib.Core.List.{List, [], _∷_}
+use Rattle.wire.specs.Checks.{if_then_else_, _is_, Verdict, taken, _else_, checked, _into_}
+use Rattle.wire.specs.Names.{nameOf}
+use Rattle.wire.specs.Reply.{leftOf}
+use Rattle.record.specs.Standing.{standing, standingOf}
+use Rattle.record.specs.Taking.{Taking, taking, takenOf, blocksOf}
+use Rattle.record.specs.declared.Session.{Session}
+use Rattle.record.specs.declared.Session.the-variants.{Ufo, Memx}
+use Rattle.record.specs.declared.Record.{Record}
+use Rattle.record.specs.declared.take.Taken.{Taken}
+use Rattle.record.specs.declared.take.Taken.the-variants as takes
+use Rattle.record.specs.declared.standing.Standing.{Standing}
+use Rattle.record.specs.declared.standing.Standing.the-variants as stands
+use Rattle.flat.specs.Flag.{isFlag, says, byteOf}
+use Rattle.flat_record.specs.declared.keeping.FlatRecord.{FlatRecord}
+use Rattle.flat_record.specs.declared.keeping.FlatTaken.{FlatTaken}
+use Rattle.flat_record.specs.declared.keeping.FlatStanding.{FlatStanding}
+
+-- 1 is UFO, with the name; 2 is MEMX-UDP, with the session
+abbrev pub sessionOf : FlatRecord → Session
+sessionOf r = if r .style is 1 then Ufo (nameOf (r .name)) else Memx (record { 0 = r .session })
+
+-- the record that a flat one is
+abbrev pub recordOf : FlatRecord → Record
+recordOf r = record {
+  session = sessionOf r;
+  next = record { 0 = r .next };
+  top = record { 0 = r .top };
+  ended = says (r .ended);
+  asked = record { 0 = r .asked };
+}
+
+-- style 1 or 2, ended 0 or 1
+abbrev pub readable : FlatRecord → Bool
+readable r = (r .style is 1 || r .style is 2) && isFlag (r .ended)
+
+abbrev pub knownRecord : FlatRecord → Verdict Record
+knownRecord r = checked ((readable r else 10) ∷ []) (taken (recordOf r))
+
+-- and back: style, name and session stay as they were given
+abbrev pub flatRecord : FlatRecord → Record → FlatRecord
+flatRecord given r = record {
+  style = given .style;
+  ended = byteOf (r .ended);
+  name = given .name;
+  session = given .session;
+  next = r .next .0;
+  top = r .top .0;
+  asked = r .asked .0;
+}
+
+-- on a refusal the record that was given
+abbrev pub flatTaken : FlatRecord → Taken → FlatTaken
+flatTaken given (takes.Refused n) = record { refusal = n; bytes = 0; messages = 0; after = given }
+flatTaken given (takes.Took bytes messages after) =
+    record { refusal = 0; bytes = bytes; messages = messages; after = flatRecord given after }
+
+-- the answer r and the bytes left are those of the verdict
+pub record FlatAnswered (v : Verdict Taking) (given : FlatRecord) (out : List ℕ) (r : FlatTaken) (left : List ℕ) : Type 0 where
+  pub answer : r ≡ flatTaken given (takenOf v)
+  pub bytes : left ≡ leftOf (blocksOf v) out
+
+abbrev pub flatStanding : Standing → FlatStanding
+flatStanding (stands.Refused n) = record { refusal = n; complete = 0; missing = 0; first = 0; last = 0 }
+flatStanding stands.Complete = record { refusal = 0; complete = 1; missing = 0; first = 0; last = 0 }
+flatStanding stands.Ongoing = record { refusal = 0; complete = 0; missing = 0; first = 0; last = 0 }
+flatStanding (stands.Missing first last) =
+    record { refusal = 0; complete = 0; missing = 1; first = first .0; last = last .0 }
+
+-- the entries: a style or flag that is none is 10, before all else
+abbrev pub takeVerdict : FlatRecord → (datagram : List ℕ) (room : ℕ) → Verdict Taking
+takeVerdict given datagram room = knownRecord given into λ r. taking r datagram room
+
+abbrev pub standingAnswer : FlatRecord → FlatStanding
+standingAnswer given = flatStanding (standingOf (knownRecord given into standing))

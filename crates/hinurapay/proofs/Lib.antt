@@ -1,4 +1,0 @@
-pub mod Counting
-pub mod Settled
-pub mod Rules
-pub mod Unfit

@@ -1,0 +1,49 @@
+// Packets read, and blocks visited.
+use flat::block;
+use flat::block::FlatBlock;
+use flat_read::packets::Read;
+ghost use mathlib.Core.Path.{_≡_};
+ghost use Rattle.flat.specs.Block.{nextBlock};
+ghost use Rattle.flat_read.specs.Readers.{soupRead, downRead, upRead, messageRead, memxRead};
+
+#[no_mangle]
+pub extern "C" fn hp_soup_read(packet: &[u8]) -> Read
+    ensures { λ r. ⌜ r ≡ soupRead (now (packet .entry)) ⌝ }
+{
+    flat_read::read_soup(packet)
+}
+
+#[no_mangle]
+pub extern "C" fn hp_ufo_read_down(packet: &[u8]) -> Read
+    ensures { λ r. ⌜ r ≡ downRead (now (packet .entry)) ⌝ }
+{
+    flat_read::read_down(packet)
+}
+
+#[no_mangle]
+pub extern "C" fn hp_ufo_read_up(packet: &[u8]) -> Read
+    ensures { λ r. ⌜ r ≡ upRead (now (packet .entry)) ⌝ }
+{
+    flat_read::read_up(packet)
+}
+
+#[no_mangle]
+pub extern "C" fn hp_ufo_read_message(packet: &[u8], place: u64) -> Read
+    ensures { λ r. ⌜ r ≡ messageRead (now (packet .entry)) place ⌝ }
+{
+    flat_read::read_message(packet, place)
+}
+
+#[no_mangle]
+pub extern "C" fn hp_memx_read(packet: &[u8]) -> Read
+    ensures { λ r. ⌜ r ≡ memxRead (now (packet .entry)) ⌝ }
+{
+    flat_read::read_memx(packet)
+}
+
+#[no_mangle]
+pub extern "C" fn hp_next_block(bytes: &[u8], place: u64) -> FlatBlock
+    ensures { λ r. ⌜ r ≡ nextBlock (now (bytes .entry)) place ⌝ }
+{
+    block::next_block(bytes, place)
+}
