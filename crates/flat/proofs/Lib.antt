@@ -1,1 +1,3 @@
 pub mod Flattening
+pub mod Outcomes
+pub mod Settled

@@ -1,0 +1,42 @@
+-- The outcomes of the room's functions are determined.
+-- Assumes nothing.
+use Prim.Native.Nat.{ℕ}
+use mathlib.Core.Path.{_≡_}
+use mathlib.Core.List.{List}
+use denote.Ref.{now}
+use Rattle.wire.proofs.Outcomes.{Answered, Determined, same-answer, same-both}
+use Rattle.wire.specs.Checks.{Verdict}
+use Rattle.record.specs.Taking.{Taking}
+use Rattle.flat_record.specs.Keeping.{FlatAnswered}
+use Rattle.flat_record.specs.declared.keeping.FlatRecord.{FlatRecord}
+use Rattle.flat_record.specs.declared.keeping.FlatTaken.{FlatTaken}
+use Rattle.flat_record.proofs.opening.open_ufo.Kinds as open-ufo
+use Rattle.flat_record.proofs.opening.open_ufo.Reads as open-ufo-reads
+use Rattle.flat_record.proofs.opening.open_memx.Kinds as open-memx
+use Rattle.flat_record.proofs.opening.open_memx.Reads as open-memx-reads
+use Rattle.flat_record.proofs.keeping.take.Kinds as take
+use Rattle.flat_record.proofs.keeping.take.Reads as take-reads
+use Rattle.flat_record.proofs.keeping.standing_of.Kinds as standing-of
+use Rattle.flat_record.proofs.keeping.standing_of.Reads as standing-of-reads
+use Rattle.flat_record.proofs.asking.ask.Kinds as ask
+use Rattle.flat_record.proofs.asking.ask.Reads as ask-reads
+
+-- a verdict settles what is taken, and what is delivered
+pub same-taken : {v : Verdict Taking} {given : FlatRecord} {out l m : List ℕ} {x y : FlatTaken}
+    → FlatAnswered v given out x l → FlatAnswered v given out y m → (x ≡ y) × (l ≡ m)
+same-taken p q = same-both (p .answer) (q .answer) (p .bytes) (q .bytes)
+
+open-ufo-is : Answered 1 open-ufo.ps open-ufo.r open-ufo-reads.Post
+open-ufo-is κs a x y s t = same-answer
+
+open-memx-is : Answered 0 open-memx.ps open-memx.r open-memx-reads.Post
+open-memx-is κs a x y s t = same-answer
+
+take-is : Determined 2 take.ps take.r (List ℕ) (λ κs s. now (s .1 .1 .0)) take-reads.Post
+take-is κs a x y s t = same-taken
+
+standing-of-is : Answered 0 standing-of.ps standing-of.r standing-of-reads.Post
+standing-of-is κs a x y s t = same-answer
+
+ask-is : Answered 0 ask.ps ask.r ask-reads.Post
+ask-is κs a x y s t = same-answer
