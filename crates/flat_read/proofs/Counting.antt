@@ -8,10 +8,10 @@ use lib.ListN.{length}
 use Rattle.wire.specs.Fields.{Bytes}
 use Rattle.wire.specs.Checks.{Verdict, refused, taken}
 use Rattle.blocks.proofs.Frames.{length-frames}
-use Rattle.ufo.specs.Up.{Message, writeMessage, writeUp, readUp, upstreamOf}
-use Rattle.ufo.specs.declared.up.Upstream.{Upstream}
-use Rattle.ufo.specs.declared.up.Upstream.the-variants as upstream
-use Rattle.ufo.proofs.UpExact.{write-read}
+use Rattle.ufo_up.specs.Up.{Message, writeMessage, writeUp, readUp, upstreamOf}
+use Rattle.ufo_up.specs.declared.up.Upstream.{Upstream}
+use Rattle.ufo_up.specs.declared.up.Upstream.the-variants as upstream
+use Rattle.ufo_up.proofs.UpExact.{write-read}
 
 many : (ms : List Message) → length ms ≤ length (writeUp ms)
 many [] = omega arith

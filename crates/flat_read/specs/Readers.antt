@@ -8,17 +8,17 @@ use Rattle.blocks.specs.Blocks.{endAt}
 use Rattle.soup.specs.Read.{read as readSoup}
 use Rattle.soup.specs.Reading.{readingOf}
 use Rattle.ufo.specs.Down.{downOf, read as readDown}
-use Rattle.ufo.specs.Up.{upOf, upstreamOf, messageIn, readUp}
+use Rattle.ufo_up.specs.Up.{upOf, upstreamOf, messageIn, readUp}
 use Rattle.memx.specs.Read.{read as readMemx}
 use Rattle.memx.specs.Reading.{memxOf}
 use Rattle.soup.specs.declared.reading.Reading.{Reading}
 use Rattle.soup.specs.declared.reading.Reading.the-variants as soup
 use Rattle.ufo.specs.declared.down.Down.{Down}
 use Rattle.ufo.specs.declared.down.Down.the-variants as down
-use Rattle.ufo.specs.declared.up.Upstream.{Upstream}
-use Rattle.ufo.specs.declared.up.Upstream.the-variants as upstream
-use Rattle.ufo.specs.declared.up.Up.{Up}
-use Rattle.ufo.specs.declared.up.Up.the-variants as up
+use Rattle.ufo_up.specs.declared.up.Upstream.{Upstream}
+use Rattle.ufo_up.specs.declared.up.Upstream.the-variants as upstream
+use Rattle.ufo_up.specs.declared.up.Up.{Up}
+use Rattle.ufo_up.specs.declared.up.Up.the-variants as up
 use Rattle.memx.specs.declared.reading.Memx.{Memx}
 use Rattle.memx.specs.declared.reading.Memx.the-variants as memx
 use Rattle.flat_read.specs.declared.packets.Read.{Read}

@@ -8,8 +8,8 @@ use memx::layout;
 use memx::reading::Memx;
 use soup::reading::Reading;
 use ufo::down::Down;
-use ufo::up::Up;
-use ufo::up::Upstream;
+use ufo_up::up::Up;
+use ufo_up::up::Upstream;
 use wire::names;
 
 fn flat_soup(said: Reading) -> Read
@@ -76,7 +76,7 @@ pub fn read_down(packet: &[u8]) -> Read
 pub fn read_up(packet: &[u8]) -> Read
     ensures { λ r. ⌜ r ≡ upRead (now (packet .entry)) ⌝ }
 {
-    match ufo::up::read_up(packet) {
+    match ufo_up::up::read_up(packet) {
         Upstream::Refused(n) => packets::no_packet(n),
         Upstream::Messages(count) => packets::requested(0, 0, count as u16, 0),
     }
@@ -115,7 +115,7 @@ fn flat_up(said: Up) -> Read
 pub fn read_message(packet: &[u8], place: u64) -> Read
     ensures { λ r. ⌜ r ≡ messageRead (now (packet .entry)) place ⌝ }
 {
-    flat_up(ufo::up::read_message(packet, place as usize))
+    flat_up(ufo_up::up::read_message(packet, place as usize))
 }
 
 // The packet has `size` bytes.

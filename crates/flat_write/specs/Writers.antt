@@ -8,8 +8,8 @@ use Rattle.wire.specs.Reply.{Reply}
 use Rattle.soup.specs.Packet.{debug, accept, reject, sequenced, serverHeartbeat, endOfSession, login, unsequenced, clientHeartbeat, logout}
 use Rattle.soup.specs.Writing as soup
 use Rattle.ufo.specs.WriteDown.{acceptReply, rejectReply, messagesReply, endReply}
-use Rattle.ufo.specs.Up as up
-use Rattle.ufo.specs.WriteUp as ufo
+use Rattle.ufo_up.specs.Up as up
+use Rattle.ufo_up.specs.WriteUp as ufo
 use Rattle.memx.specs.Packet.{heartbeat, shutdown, laid}
 use Rattle.memx.specs.Writing as memx
 use Rattle.flat_read.specs.declared.packets.Packet.{Packet}

@@ -5,8 +5,8 @@ ghost use lib.ListN.{length};
 ghost use Rattle.wire.specs.Reply.{Settled, answerOf};
 ghost use Rattle.soup.specs.Packet.{login as soupLogin};
 ghost use Rattle.soup.specs.Writing.{reply as soupReplyOf};
-ghost use Rattle.ufo.specs.Up.{login};
-ghost use Rattle.ufo.specs.WriteUp.{reply};
+ghost use Rattle.ufo_up.specs.Up.{login};
+ghost use Rattle.ufo_up.specs.WriteUp.{reply};
 ghost use Rattle.flat.specs.Wrote.{FlatSettled};
 ghost use Rattle.flat_write.specs.Writers.{unfit, memxReply, downReply, messageReply, soupBare, soupReply};
 use flat::name::name_of;
@@ -15,8 +15,8 @@ use flat::wrote;
 use flat::wrote::Wrote;
 use flat_read::packets::Packet;
 use memx::layout;
-use ufo::down::LONGEST;
-use ufo::write_up;
+use ufo_up::write_up;
+use wire::datagram::LIMIT;
 use wire::kinds::Sequence;
 use wire::kinds::SessionId;
 use wire::output::Written;
@@ -78,7 +78,7 @@ fn down_written(fields: Packet, body: &[u8], out: &mut [u8]) -> Written
     match kind {
         b'A' => {
             if body.len() != 0 {
-                return unfit(LONGEST, 15, body, refusal::FRAMING);
+                return unfit(LIMIT, 15, body, refusal::FRAMING);
             }
             let text = fields.name;
             let name = name_of(&text);
@@ -86,7 +86,7 @@ fn down_written(fields: Packet, body: &[u8], out: &mut [u8]) -> Written
         }
         b'J' => {
             if body.len() != 0 {
-                return unfit(LONGEST, 2, body, refusal::FRAMING);
+                return unfit(LIMIT, 2, body, refusal::FRAMING);
             }
             let reason = fields.reason;
             ufo::write_down::write_reject(reason, out)
@@ -94,11 +94,11 @@ fn down_written(fields: Packet, body: &[u8], out: &mut [u8]) -> Written
         b'S' => ufo::write_down::write_messages(Sequence(number), count, body, out),
         b'E' => {
             if body.len() != 0 {
-                return unfit(LONGEST, 5, body, refusal::FRAMING);
+                return unfit(LIMIT, 5, body, refusal::FRAMING);
             }
             ufo::write_down::write_end(Sequence(number), out)
         }
-        _ => unfit(LONGEST, 1, body, refusal::UNKNOWN_TYPE),
+        _ => unfit(LIMIT, 1, body, refusal::UNKNOWN_TYPE),
     }
 }
 
@@ -129,30 +129,30 @@ fn message_written(fields: Packet, body: &[u8], out: &mut [u8]) -> Written
     match kind {
         b'L' => {
             if body.len() != 0 {
-                return unfit(LONGEST, 29, body, refusal::FRAMING);
+                return unfit(LIMIT, 29, body, refusal::FRAMING);
             }
             ufo_login_written(fields, out)
         }
         b'T' => {
             if body.len() != 0 {
-                return unfit(LONGEST, 9, body, refusal::FRAMING);
+                return unfit(LIMIT, 9, body, refusal::FRAMING);
             }
             write_up::write_request(Sequence(number), count, out)
         }
         b'U' => write_up::write_unsequenced(body, out),
         b'R' => {
             if body.len() != 0 {
-                return unfit(LONGEST, 3, body, refusal::FRAMING);
+                return unfit(LIMIT, 3, body, refusal::FRAMING);
             }
             write_up::write_heartbeat(out)
         }
         b'O' => {
             if body.len() != 0 {
-                return unfit(LONGEST, 3, body, refusal::FRAMING);
+                return unfit(LIMIT, 3, body, refusal::FRAMING);
             }
             write_up::write_logout(out)
         }
-        _ => unfit(LONGEST, 3, body, refusal::UNKNOWN_TYPE),
+        _ => unfit(LIMIT, 3, body, refusal::UNKNOWN_TYPE),
     }
 }
 

@@ -13,8 +13,8 @@ use crate::log;
 use crate::log::Log;
 use blocks::Block;
 use blocks::Place;
-use ufo::down;
 use ufo::write_down;
+use wire::datagram::LIMIT;
 use wire::kinds::Sequence;
 use wire::output::Written;
 use wire::refusal;
@@ -38,7 +38,7 @@ fn measure(s: &[u8], at: usize, count: u16) -> Run
                 length: _,
                 next,
             } => {
-                if down::LONGEST - 7 < next - at {
+                if LIMIT - 7 < next - at {
                     return Run { count: k, end };
                 }
                 end = next;
@@ -84,7 +84,7 @@ pub fn answer(log: Log, bytes: &[u8], first: Sequence, count: u16, out: &mut [u8
     if count == 0 {
         return Written::Refused(refusal::ABSENT);
     }
-    if out.len() < down::LONGEST {
+    if out.len() < LIMIT {
         return Written::Refused(refusal::ROOM);
     }
     let total = log.count;

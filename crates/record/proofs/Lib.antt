@@ -12,4 +12,3 @@ pub mod Twice
 pub mod Complete
 pub mod Asks
 mod Settled
-pub mod Lying

@@ -4,4 +4,3 @@ pub mod Taking
 pub mod Steps
 pub mod Standing
 pub mod Asking
-pub mod Lent

@@ -3,7 +3,6 @@ pub mod ask;
 mod deliver;
 mod hangs;
 mod hear;
-pub mod lent;
 pub mod open;
 pub mod standing;
 pub mod take;

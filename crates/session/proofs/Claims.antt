@@ -10,7 +10,7 @@ use lib.Ieee.{Float}
 use lib.ListN.{length}
 use Rattle.wire.specs.Checks.{taken}
 use Rattle.ufo.specs.Down as ufo
-use Rattle.ufo.specs.Up.{Message, request, readUp}
+use Rattle.ufo_up.specs.Up.{Message, request, readUp}
 use Rattle.clock.specs.Patience.{waitOver}
 use Rattle.clock.specs.declared.sheet.Sheet.{Sheet}
 use Rattle.clock.specs.declared.patience.Patience.{Patience}

@@ -13,11 +13,11 @@ use Rattle.wire.proofs.Settling.{enough-room}
 use Rattle.blocks.specs.Blocks.{frame}
 use Rattle.blocks.proofs.Frames.{length-frame}
 use Rattle.ufo.specs.Down as ufo
-use Rattle.ufo.specs.Up.{Message, request, writeMessage, FitMessage, readUp}
-use Rattle.ufo.specs.WriteUp.{reply}
-use Rattle.ufo.proofs.UpExact.{read-one}
-use Rattle.ufo.proofs.UpExactOne.{length-message}
-use Rattle.ufo.proofs.UpReplies.{reply-fit}
+use Rattle.ufo_up.specs.Up.{Message, request, writeMessage, FitMessage, readUp}
+use Rattle.ufo_up.specs.WriteUp.{reply}
+use Rattle.ufo_up.proofs.UpExact.{read-one}
+use Rattle.ufo_up.proofs.UpExactOne.{length-message}
+use Rattle.ufo_up.proofs.UpReplies.{reply-fit}
 use Rattle.clock.specs.Patience.{waitOver}
 use Rattle.clock.specs.declared.sheet.Sheet.{Sheet}
 use Rattle.clock.specs.declared.patience.Patience.{Patience}

@@ -17,8 +17,8 @@ use Rattle.wire.specs.Text.{letterOrDigit, blank, textThenSpaces}
 use Rattle.wire.specs.declared.kinds.Name.{Name}
 use Rattle.blocks.specs.Blocks.{frames, cut, cutFull}
 use Rattle.ufo.specs.Down.{readS, readE, read}
-use Rattle.ufo.specs.Up.{request, readT, readMessage, readEach, readUp}
-use Rattle.ufo.specs.WriteUp.{verdict, reply}
+use Rattle.ufo_up.specs.Up.{request, readT, readMessage, readEach, readUp}
+use Rattle.ufo_up.specs.WriteUp.{verdict, reply}
 use Rattle.wire.proofs.Width.{bytes-cons}
 use Rattle.clock.specs.Milliseconds.{whole}
 use Rattle.clock.specs.declared.sheet.Sheet.{Sheet}

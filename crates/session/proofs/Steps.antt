@@ -10,7 +10,7 @@ use lib.ListN.{length}
 use Rattle.wire.specs.Checks.{Verdict, refused, taken}
 use Rattle.wire.specs.Reply.{Reply}
 use Rattle.blocks.specs.Blocks.{frames}
-use Rattle.ufo.specs.Up.{Message, login, request, unsequenced, heartbeat, logout}
+use Rattle.ufo_up.specs.Up.{Message, login, request, unsequenced, heartbeat, logout}
 use Rattle.lend.specs.Log.{Kept}
 use Rattle.lend.proofs.Answering.{few-in}
 use Rattle.record.specs.Record.{hangs}

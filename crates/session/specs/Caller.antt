@@ -10,8 +10,8 @@ use Rattle.wire.specs.Reply.{Settled}
 use Rattle.wire.specs.declared.output.Written.{Written}
 use Rattle.wire.specs.declared.output.Written.the-variants as output
 use Rattle.blocks.specs.Blocks.{cut, messagesOf}
-use Rattle.ufo.specs.Up.{request}
-use Rattle.ufo.specs.WriteUp.{reply}
+use Rattle.ufo_up.specs.Up.{request}
+use Rattle.ufo_up.specs.WriteUp.{reply}
 use Rattle.clock.specs.declared.sheet.Sheet.{Sheet}
 use Rattle.clock.specs.declared.patience.Patience.{Patience}
 use Rattle.lend.specs.Log.{adding, addingMany, declaring, loggedOf, Entered}

@@ -9,8 +9,8 @@ use lib.Ieee.{Float}
 use lib.ListN.{length, take, getD}
 use Rattle.wire.specs.Checks.{taken}
 use Rattle.blocks.specs.Blocks.{frames}
-use Rattle.ufo.specs.Up.{request, readUp}
-use Rattle.ufo.specs.WriteUp.{reply}
+use Rattle.ufo_up.specs.Up.{request, readUp}
+use Rattle.ufo_up.specs.WriteUp.{reply}
 use Rattle.clock.specs.declared.sheet.Sheet.{Sheet}
 use Rattle.clock.specs.declared.patience.Patience.{Patience}
 use Rattle.lend.specs.Log.{hangs}

@@ -10,8 +10,8 @@ use Rattle.wire.specs.Fields.{Bytes}
 use Rattle.wire.specs.Checks.{Verdict, refused, taken}
 use Rattle.wire.specs.Reply.{Reply}
 use Rattle.wire.specs.declared.kinds.Name.{Name}
-use Rattle.ufo.specs.Up.{Message, login, request, unsequenced, heartbeat, logout, readUp}
-use Rattle.ufo.specs.WriteUp.{reply}
+use Rattle.ufo_up.specs.Up.{Message, login, request, unsequenced, heartbeat, logout, readUp}
+use Rattle.ufo_up.specs.WriteUp.{reply}
 use Rattle.clock.specs.declared.sheet.Sheet.{Sheet}
 use Rattle.clock.specs.declared.patience.Patience.{Patience}
 use Rattle.lend.specs.Log.{messagesIn, Kept, adding, addingMany, declaring}

@@ -14,20 +14,6 @@ use Rattle.ufo.proofs.write_down.write_messages.Kinds as write-messages
 use Rattle.ufo.proofs.write_down.write_messages.Reads as write-messages-reads
 use Rattle.ufo.proofs.write_down.write_end.Kinds as write-end
 use Rattle.ufo.proofs.write_down.write_end.Reads as write-end-reads
-use Rattle.ufo.proofs.up.read_up.Kinds as read-up
-use Rattle.ufo.proofs.up.read_up.Reads as read-up-reads
-use Rattle.ufo.proofs.up.read_message.Kinds as read-message
-use Rattle.ufo.proofs.up.read_message.Reads as read-message-reads
-use Rattle.ufo.proofs.write_up.write_login.Kinds as write-login
-use Rattle.ufo.proofs.write_up.write_login.Reads as write-login-reads
-use Rattle.ufo.proofs.write_up.write_request.Kinds as write-request
-use Rattle.ufo.proofs.write_up.write_request.Reads as write-request-reads
-use Rattle.ufo.proofs.write_up.write_unsequenced.Kinds as write-unsequenced
-use Rattle.ufo.proofs.write_up.write_unsequenced.Reads as write-unsequenced-reads
-use Rattle.ufo.proofs.write_up.write_heartbeat.Kinds as write-heartbeat
-use Rattle.ufo.proofs.write_up.write_heartbeat.Reads as write-heartbeat-reads
-use Rattle.ufo.proofs.write_up.write_logout.Kinds as write-logout
-use Rattle.ufo.proofs.write_up.write_logout.Reads as write-logout-reads
 
 read-down-is : Answered 1 read-down.ps read-down.r read-down-reads.Post
 read-down-is κs a x y s t = same-answer
@@ -43,24 +29,3 @@ write-messages-is κs a x y s t = same-reply
 
 write-end-is : Determined 1 write-end.ps write-end.r (List ℕ) (λ κs s. now (s .1 .0)) write-end-reads.Post
 write-end-is κs a x y s t = same-reply
-
-read-up-is : Answered 1 read-up.ps read-up.r read-up-reads.Post
-read-up-is κs a x y s t = same-answer
-
-read-message-is : Answered 1 read-message.ps read-message.r read-message-reads.Post
-read-message-is κs a x y s t = same-answer
-
-write-login-is : Determined 1 write-login.ps write-login.r (List ℕ) (λ κs s. now (s .1 .1 .1 .0)) write-login-reads.Post
-write-login-is κs a x y s t = same-reply
-
-write-request-is : Determined 1 write-request.ps write-request.r (List ℕ) (λ κs s. now (s .1 .1 .0)) write-request-reads.Post
-write-request-is κs a x y s t = same-reply
-
-write-unsequenced-is : Determined 2 write-unsequenced.ps write-unsequenced.r (List ℕ) (λ κs s. now (s .1 .0)) write-unsequenced-reads.Post
-write-unsequenced-is κs a x y s t = same-reply
-
-write-heartbeat-is : Determined 1 write-heartbeat.ps write-heartbeat.r (List ℕ) (λ κs s. now (s .0)) write-heartbeat-reads.Post
-write-heartbeat-is κs a x y s t = same-reply
-
-write-logout-is : Determined 1 write-logout.ps write-logout.r (List ℕ) (λ κs s. now (s .0)) write-logout-reads.Post
-write-logout-is κs a x y s t = same-reply

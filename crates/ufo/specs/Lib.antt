@@ -1,4 +1,2 @@
 pub mod Down
 pub mod WriteDown
-pub mod Up
-pub mod WriteUp

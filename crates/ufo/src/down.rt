@@ -1,7 +1,7 @@
 // UFO, server to client: what a datagram says.
 ghost use mathlib.Core.Path.{_≡_};
 ghost use Rattle.ufo.specs.Down.{read, readA, readJ, readS, readE, downOf};
-use wire::datagram;
+use wire::datagram::LIMIT;
 use wire::fields;
 use wire::kinds::Name;
 use wire::kinds::Sequence;
@@ -9,8 +9,6 @@ use wire::names;
 use wire::refusal;
 use wire::text;
 
-// The longest packet, in bytes.
-pub const LONGEST: usize = datagram::LIMIT;
 // The highest number that a field of four bytes holds.
 pub const HIGHEST: u64 = 4294967295;
 
@@ -102,7 +100,7 @@ pub fn read_down(d: &[u8]) -> Down
     if d.len() == 0 {
         return Down::Refused(refusal::EMPTY);
     }
-    if LONGEST < d.len() {
+    if LIMIT < d.len() {
         return Down::Refused(refusal::OVERLONG);
     }
     match d[0] {

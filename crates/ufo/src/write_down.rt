@@ -4,7 +4,7 @@ ghost use Rattle.wire.specs.Names.{nameBytes};
 ghost use Rattle.wire.specs.Reply.{Settled};
 ghost use Rattle.ufo.specs.WriteDown.{acceptReply, rejectReply, messagesReply, endReply};
 use crate::down::HIGHEST;
-use crate::down::LONGEST;
+use wire::datagram::LIMIT;
 use wire::fields;
 use wire::kinds::Name;
 use wire::kinds::Sequence;
@@ -60,7 +60,7 @@ pub fn write_messages(first: Sequence, count: u16, blocks: &[u8], out: &mut [u8]
     ensures { λ r. ⌜ Settled (messagesReply (first .0) count (now (blocks .entry)) (length (now (out .entry)))) (now (out .entry)) r (now (out .exit)) ⌝ }
 {
     let size = 7 + blocks.len();
-    if LONGEST < size {
+    if LIMIT < size {
         return Written::Refused(refusal::OVERLONG);
     }
     if !blocks::exactly(blocks, 0, count) {

@@ -1,0 +1,31 @@
+-- The record where it lies, once a step was tried on it: the one afterwards if the step was taken, else the one that lay there.
+-- Assumes nothing.
+use Prim.Native.Nat.{ℕ}
+use mathlib.Core.Path.{_≡_}
+use mathlib.Core.List.{List}
+use Rattle.wire.specs.Checks.{Verdict, refused, taken}
+use Rattle.record.specs.Taking.{Taking, Answered}
+use Rattle.record.specs.Asking.{Wish, nothing, wait, request, askedOf}
+use Rattle.record.specs.declared.Record.{Record}
+use Rattle.record.specs.declared.take.Taken.{Taken}
+use Rattle.record.specs.declared.ask.Asked.{Asked}
+
+abbrev pub onceTaken : Record → Verdict Taking → Record
+onceTaken kept (refused n) = kept
+onceTaken kept (taken t) = t .after
+
+-- only a request changes the record
+abbrev pub onceAsked : Record → Verdict Wish → Record
+onceAsked kept (refused n) = kept
+onceAsked kept (taken nothing) = kept
+onceAsked kept (taken wait) = kept
+onceAsked kept (taken (request first count after)) = after
+
+-- the answer r, the bytes left and the record that lies there are those of the verdict
+pub record TakenLent (verdict : Verdict Taking) (kept : Record) (out : List ℕ) (r : Taken) (left : List ℕ) (lies : Record) : Type 0 where
+  pub answered : Answered verdict out r left
+  pub stored : lies ≡ onceTaken kept verdict
+
+pub record AskedLent (verdict : Verdict Wish) (kept : Record) (r : Asked) (lies : Record) : Type 0 where
+  pub answer : r ≡ askedOf verdict
+  pub stored : lies ≡ onceAsked kept verdict

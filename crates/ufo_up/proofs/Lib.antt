@@ -1,0 +1,9 @@
+pub mod UpMessage
+pub mod UpWalk
+pub mod UpPacket
+pub mod UpExactOne
+pub mod UpExact
+pub mod UpInTurn
+pub mod UpReplies
+pub mod UpLaid
+mod Settled

@@ -1,0 +1,106 @@
+use borrow.Author.Tests.{not-true, not-false}
+use Rattle.wire.proofs.Tests.{tests}
+use Rattle.ufo_up.specs.Up.{readL}
+use borrow.Author.Needs.{needs}
+use Rattle.ufo_up.proofs.up.read_l.Statement.{statement}
+use Rattle.ufo_up.proofs.up.read_l.Tie as tie
+
+returns : tie.Need-returns
+unfolding readL
+returns c = search tests
+
+sub-user : tie.Need-sub-user
+sub-user c = search needs
+
+part-user-start : tie.Need-part-user-start
+part-user-start c = search needs
+
+part-user-end : tie.Need-part-user-end
+part-user-end c = search needs
+
+is-text-then-spaces-requires : tie.Need-is-text-then-spaces-requires
+is-text-then-spaces-requires c κs = search needs
+
+returns-2 : tie.Need-returns-2
+unfolding readL
+returns-2 c =
+    rw (← c .before .is-text-then-spaces .ensures, not-true (c .before .is-text-then-spaces .result) (c .if2 .taken)) (search tests)
+
+sub-password : tie.Need-sub-password
+sub-password c = search needs
+
+part-password-start : tie.Need-part-password-start
+part-password-start c = search needs
+
+part-password-end : tie.Need-part-password-end
+part-password-end c = search needs
+
+is-text-then-spaces-requires-2 : tie.Need-is-text-then-spaces-requires-2
+is-text-then-spaces-requires-2 c κs = search needs
+
+returns-3 : tie.Need-returns-3
+unfolding readL
+returns-3 c =
+    let b = c .before .before .before in
+    rw (← b .before .is-text-then-spaces .ensures, not-false (b .before .is-text-then-spaces .result) (b .if2 .left), ← c .before .is-text-then-spaces2 .ensures, not-true (c .before .is-text-then-spaces2 .result) (c .if3 .taken)) (search tests)
+
+sub-session : tie.Need-sub-session
+sub-session c = search needs
+
+part-session-start : tie.Need-part-session-start
+part-session-start c = search needs
+
+part-session-end : tie.Need-part-session-end
+part-session-end c = search needs
+
+is-text-then-spaces-requires-3 : tie.Need-is-text-then-spaces-requires-3
+is-text-then-spaces-requires-3 c κs = search needs
+
+returns-4 : tie.Need-returns-4
+unfolding readL
+returns-4 c =
+    let b = c .before .before .before in
+    let a = b .before .before .before in
+    rw (← a .before .is-text-then-spaces .ensures, not-false (a .before .is-text-then-spaces .result) (a .if2 .left), ← b .before .is-text-then-spaces2 .ensures, not-false (b .before .is-text-then-spaces2 .result) (b .if3 .left), ← c .before .is-text-then-spaces3 .ensures, not-true (c .before .is-text-then-spaces3 .result) (c .if4 .taken)) (search tests)
+
+get-user-requires : tie.Need-get-user-requires
+get-user-requires c κs = search needs
+
+get-name-requires : tie.Need-get-name-requires
+get-name-requires c κs = search needs
+
+get-name-requires-2 : tie.Need-get-name-requires-2
+get-name-requires-2 c κs = search needs
+
+returns-5 : tie.Need-returns-5
+unfolding readL
+returns-5 c =
+    let t = c .before .before .before in
+    let b = t .before .before .before in
+    let a = b .before .before .before in
+    rw (← a .before .is-text-then-spaces .ensures, not-false (a .before .is-text-then-spaces .result) (a .if2 .left), ← b .before .is-text-then-spaces2 .ensures, not-false (b .before .is-text-then-spaces2 .result) (b .if3 .left), ← t .before .is-text-then-spaces3 .ensures, not-false (t .before .is-text-then-spaces3 .result) (t .if4 .left), c .before .before .get-user .ensures, c .before .get-name .ensures, c .get-name2 .ensures) (search tests)
+
+pub read-l-spec : {M : Type 1} → statement M
+read-l-spec =
+    tie.close
+    (tie.spec
+    returns
+    sub-user
+    part-user-start
+    part-user-end
+    is-text-then-spaces-requires
+    returns-2
+    sub-password
+    part-password-start
+    part-password-end
+    is-text-then-spaces-requires-2
+    returns-3
+    sub-session
+    part-session-start
+    part-session-end
+    is-text-then-spaces-requires-3
+    returns-4
+    get-user-requires
+    get-name-requires
+    get-name-requires-2
+    returns-5)
