@@ -2,14 +2,15 @@
 -- Assumes nothing.
 use Prim.Native.Nat.{ℕ, zero, suc, _+_, _-_, _^_, _≤_, _<_}
 use mathlib.Core.List.{List, [], _∷_}
-use mathlib.Core.Path.{_≡_, refl, ap, _∙_}
-use mathlib.Core.Bool.{Bool, true, false}
+use mathlib.Core.Path.{_≡_, ap, _∙_}
+use mathlib.Core.Bool.{Bool, true}
 use native.Mathlib.Omega.{arith}
 use borrow.Author.Tests.{le-leb, leb-true}
 use lib.ListN.{length, take, drop, getD, length-drop}
 use lib.Seq.{drop-cons}
 use lib.Dec.{leb}
 use Rattle.wire.specs.Fields.{Bytes}
+use Rattle.wire.specs.Datagram.{limit}
 use Rattle.blocks.specs.Blocks.{frames, isWhole, Each}
 use Rattle.wire.proofs.Width.{bytes-take, length-part}
 use Rattle.blocks.proofs.Frames.{length-one}
@@ -21,7 +22,7 @@ use Rattle.ufo.proofs.DownLaid.{length-laid}
 use Rattle.lend.specs.Log.{small, messagesIn, hangs}
 use Rattle.lend.specs.Answer.{greatest, from, goes, heartbeatOf, endOf, answerTo}
 use Rattle.lend.specs.declared.log.Log.{Log}
-use Rattle.wire.proofs.Tests.{and-left, and-right, leb-same}
+use Rattle.wire.proofs.Tests.{by-test, and-left, and-right, leb-same}
 use Rattle.lend.proofs.Hanging.{hanging}
 use Rattle.lend.proofs.Greatest.{greatest-bound, greatest-passes, greatest-above, greatest-same}
 use Rattle.lend.proofs.Measuring.{holds}
@@ -46,7 +47,7 @@ bytes-in l s b e = frames-cut (l .count) (take (l .used) s) (messagesIn l s) (by
 pub record Most (ms : List (List ℕ)) (f c k : ℕ) : Type 0 where
   pub asked : k ≤ c
   pub there : f + k - 1 ≤ length ms
-  pub size : length (write (from f k ms)) ≤ 1472
+  pub size : length (write (from f k ms)) ≤ limit
   pub many : length (take k (drop (f - 1) ms)) ≡ k
   pub above : (j : ℕ) → j ≤ c → goes ms f j ≡ true → j ≤ k
 
@@ -58,7 +59,7 @@ module _ (ms : List (List ℕ)) (f : ℕ) (h : 0 < f) (g : f ≤ length ms) wher
       let n = length-drop (f - 1) ms in
       let a = leb-same (f + j - 1) (length ms) j (length (drop (f - 1) ms)) (λ u. omega arith) (λ u. omega arith) in
       let l : length (write (messages f t)) ≡ 7 + length (frames t) = length-laid f (length t) (frames t) in
-      let b = leb-same (length (write (messages f t))) 1472 (length (frames t)) 1465 (λ u. omega arith) (λ u. omega arith) in
+      let b = leb-same (length (write (messages f t))) limit (length (frames t)) 1465 (λ u. omega arith) (λ u. omega arith) in
       rw (a, b)
 
   pub most-holds : (c : ℕ) → greatest (goes ms f) c ≡ greatest (holds (drop (f - 1) ms) 1465) c
@@ -85,12 +86,12 @@ module _ (ms : List (List ℕ)) (f : ℕ) (h : 0 < f) (g : f ≤ length ms) wher
       let k = greatest (goes ms f) c in
       let e = greatest-passes (goes ms f) c none-goes in
       let a = leb (f + k - 1) (length ms) in
-      let b = leb (length (write (from f k ms))) 1472 in
+      let b = leb (length (write (from f k ms))) limit in
       let t = leb-true (f + k - 1) (length ms) (and-left a b e) in
       record {
         asked = greatest-bound (goes ms f) c;
         there = t;
-        size = leb-true (length (write (from f k ms))) 1472 (and-right a b e);
+        size = leb-true (length (write (from f k ms))) limit (and-right a b e);
         many = length-part (f - 1) k ms (omega arith);
         above = greatest-above (goes ms f) c;
       }
@@ -118,8 +119,7 @@ module _ (ms : List (List ℕ)) (n : length ms ≤ 2 ^ 32 - 2) where
 
   pub answer-fits : (ended : Bool) (f c : ℕ) → Each Bytes ms → 0 < f → Fit (answerTo ended ms f c)
   unfolding answerTo
-  answer-fits ended f c b h = by (leb f (length ms)) refl ended where
-    by : (t : Bool) → leb f (length ms) ≡ t → (ended : Bool) → Fit (answerTo ended ms f c)
-    by true e x = rw e (from-fits f c b h (leb-true f (length ms) e))
-    by false e true = rw e end-fits
-    by false e false = rw e beat-fits
+  answer-fits ended f c b h =
+      by-test (leb f (length ms))
+      (λ e. rw e (from-fits f c b h (leb-true f (length ms) e)))
+      (λ e. by-test ended (λ x. rw (e, x) end-fits) (λ x. rw (e, x) beat-fits))

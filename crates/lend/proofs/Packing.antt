@@ -10,6 +10,7 @@ use lib.ListN.{length, take, drop, length-append, length-drop}
 use lib.Seq.{take-at}
 use Rattle.wire.specs.Fields.{Bytes}
 use Rattle.wire.specs.Checks.{taken}
+use Rattle.wire.specs.Datagram.{limit}
 use Rattle.blocks.specs.Blocks.{frames, placeAfter, placeOf}
 use Rattle.blocks.specs.declared.Place.the-variants as place
 use Rattle.wire.proofs.Tests.{impossible}
@@ -71,7 +72,7 @@ module _ (l : Log) (s : List ℕ) (f c : ℕ) (h : hangs l s ≡ true) (i : 0 < 
   abbrev size : ℕ
   size = length (frames those)
 
-  sent-there : (room : ℕ) → Bytes s → 1472 ≤ room → Sent room begins (record { count = number; end = begins + size })
+  sent-there : (room : ℕ) → Bytes s → limit ≤ room → Sent room begins (record { count = number; end = begins + size })
   sent-there room b w =
       let hung = hanging l s h in
       let m = most ms f i there c in
@@ -85,7 +86,7 @@ module _ (l : Log) (s : List ℕ) (f c : ℕ) (h : hangs l s ≡ true) (i : 0 < 
         reply = rw (add-sub-cancel-left begins size, bytes, first) (ap (λ (n : ℕ). messagesReply f n (frames those) room) (sym (m .many)) ∙ lawful-fit (messages f those) room fit (omega (arith, m .size)));
       }
 
-  pub sent : (room p : ℕ) (r : Run) → Bytes s → 1472 ≤ room → placeOf (placeAfter (f - 1) held 0) ≡ place.At p → r ≡ run held p p 0 c → Sent room p r
+  pub sent : (room p : ℕ) (r : Run) → Bytes s → limit ≤ room → placeOf (placeAfter (f - 1) held 0) ≡ place.At p → r ≡ run held p p 0 c → Sent room p r
   sent room p r b w e g =
       let q : place.At begins ≡ place.At p = rw (skip .place) at e in
       let at : p ≡ begins = cc q in

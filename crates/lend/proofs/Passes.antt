@@ -10,6 +10,7 @@ use borrow.Author.Tests.{le-leb, lt-leb, eq-eqb, ne-eqb}
 use lib.ListN.{length, drop, length-drop}
 use lib.Dec.{leb, eqb}
 use Rattle.wire.specs.Checks.{if_then_else_, _atMost_}
+use Rattle.wire.proofs.Tests.{by-test}
 use Rattle.blocks.specs.Blocks.{stated, first, Cut, torn, whole, before, cut, isWhole, endAt}
 use Rattle.blocks.specs.declared.Count.{Count}
 use Rattle.blocks.specs.declared.Count.the-variants as count
@@ -82,7 +83,5 @@ module _ (s : List ℕ) (p : ℕ) where
 
   pub tally-end : (n k : ℕ) (b v : Bool) → b ≡ v → length s ≤ p → tallyFrom k b (cutAll (suc n) (drop p s)) ≡ (if v then count.Blocks k else count.Refused 2)
   unfolding cutAll small
-  tally-end n k b v e h = rw (eq-eqb (length (drop p s)) 0 (rw length-drop (omega arith)), e) (by v) where
-    by : (v : Bool) → tallyFrom k v (whole []) ≡ (if v then count.Blocks k else count.Refused 2)
-    by true = rw (add-zero k)
-    by false = refl
+  tally-end n k b v e h = rw (eq-eqb (length (drop p s)) 0 (rw length-drop (omega arith)), e)
+      (by-test v (λ t. rw (t, add-zero k)) (λ t. rw t))

@@ -9,6 +9,7 @@ use borrow.Author.Tests.{le-leb, lt-leb, ne-eqb}
 use lib.ListN.{length}
 use Rattle.wire.specs.Checks.{taken}
 use Rattle.wire.specs.Reply.{within}
+use Rattle.wire.specs.Datagram.{limit}
 use Rattle.wire.proofs.Settling.{enough-room}
 use Rattle.wire.proofs.Width.{length-bytesOf}
 use Rattle.blocks.specs.Blocks.{frames}
@@ -44,10 +45,10 @@ module _ (l : Log) (s : List ℕ) (h : hangs l s ≡ true) where
   unfolding endPacketReply
   replies-end room e = writes-end room ∙ rw (h, e)
 
-  module _ (f c room : ℕ) (i : 0 < f) (j : 0 < c) (w : 1472 ≤ room) where
+  module _ (f c room : ℕ) (i : 0 < f) (j : 0 < c) (w : limit ≤ room) where
     pub replies : answerReply l s f c room ≡ taken (write (answerTo (l .ended) ms f c))
     unfolding answerReply
-    replies = rw (h, ne-eqb f 0 (λ e. omega arith), ne-eqb c 0 (λ e. omega arith), le-leb 1472 room w)
+    replies = rw (h, ne-eqb f 0 (λ e. omega arith), ne-eqb c 0 (λ e. omega arith), le-leb limit room w)
 
     pub answers-packed : f ≤ l .count → taken (write (packed ms f c)) ≡ answerReply l s f c room
     unfolding answerTo

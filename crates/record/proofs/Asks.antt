@@ -2,15 +2,15 @@
 -- Assumes nothing.
 use Prim.Native.Nat.{ℕ, _+_, _-_, _≤_, _<_, min}
 use mathlib.Core.List.{[], _∷_}
-use mathlib.Core.Path.{_≡_, refl}
-use mathlib.Core.Bool.{Bool, true, false, not, _||_}
+use mathlib.Core.Path.{_≡_}
+use mathlib.Core.Bool.{Bool, true, false, not, _||_, or-true}
 use mathlib.Core.Logic.{_⊎_, inl, inr}
 use native.Mathlib.Omega.{arith}
 use borrow.Author.Tests.{le-leb, lt-leb, leb-true, eq-eqb, ne-eqb}
 use lib.Dec.{leb}
 use lib.Ieee.{Float}
-use Rattle.wire.specs.Checks.{if_then_else_, _is_, taken, _else_, _into_}
-use Rattle.wire.proofs.Tests.{impossible}
+use Rattle.wire.specs.Checks.{_is_, taken, _else_, _into_}
+use Rattle.wire.proofs.Tests.{by-test, impossible}
 use Rattle.wire.proofs.Checks.{all-passed, went}
 use Rattle.clock.specs.Patience.{waitOver}
 use Rattle.clock.specs.declared.sheet.Sheet.{Sheet}
@@ -30,11 +30,13 @@ pub record Requests (r : Record) (first count : ℕ) (after : Record) : Type 0 w
 
 wishes : (r : Record) (late : Bool) (first count : ℕ) (after : Record) → wish r late ≡ request first count after → (r .next .0 ≤ r .top .0) × (requestOf r ≡ request first count after)
 unfolding wish
-wishes r late first count after e = by (leb (r .next .0) (r .top .0)) refl (not (r .asked .0 is r .next .0) || late) refl where
-  by : (a : Bool) → leb (r .next .0) (r .top .0) ≡ a → (b : Bool) → not (r .asked .0 is r .next .0) || late ≡ b → (r .next .0 ≤ r .top .0) × (requestOf r ≡ request first count after)
-  by false p b q = let z : nothing ≡ request first count after = rw p at e in impossible cc
-  by true p false q = let z : wait ≡ request first count after = rw (p, q) at e in impossible cc
-  by true p true q = (leb-true (r .next .0) (r .top .0) p, rw (p, q) at e)
+wishes r late first count after e =
+    by-test (leb (r .next .0) (r .top .0))
+    (λ p.
+    by-test (not (r .asked .0 is r .next .0) || late)
+    (λ q. (leb-true (r .next .0) (r .top .0) p, rw (p, q) at e))
+    (λ q. let z : wait ≡ request first count after = rw (p, q) at e in impossible cc))
+    (λ p. let z : nothing ≡ request first count after = rw p at e in impossible cc)
 
 module _ (r : Record) (s : Sheet) (p : Patience) (elapsed : Float) where
   -- A request names what is missing from N on, and nothing of the record changes but A.
@@ -64,10 +66,7 @@ module _ (r : Record) (s : Sheet) (p : Patience) (elapsed : Float) where
     pub asks-now : r .next .0 ≤ r .top .0 → ((r .asked .0 ≡ r .next .0) → ⊥) ⊎ (late ≡ true) → asking r s p elapsed ≡ taken (requestOf r)
     unfolding asking wish
     asks-now l (inl n) = rw (h, e, le-leb (r .next .0) (r .top .0) l, ne-eqb (r .asked .0) (r .next .0) n)
-    asks-now l (inr t) = rw (h, e, le-leb (r .next .0) (r .top .0) l, t) (by (r .asked .0 is r .next .0)) where
-      by : (b : Bool) → taken (if not b || true then requestOf r else wait) ≡ taken (requestOf r)
-      by true = refl
-      by false = refl
+    asks-now l (inr t) = rw (h, e, le-leb (r .next .0) (r .top .0) l, t, or-true)
 
     -- Else the desk waits.
     pub asks-later : r .next .0 ≤ r .top .0 → r .asked .0 ≡ r .next .0 → late ≡ false → asking r s p elapsed ≡ taken wait

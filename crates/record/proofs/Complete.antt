@@ -3,11 +3,12 @@
 use Prim.Native.Nat.{_+_, _≤_, _<_}
 use mathlib.Core.List.{[], _∷_}
 use mathlib.Core.Path.{_≡_, refl}
-use mathlib.Core.Bool.{Bool, true, false}
+use mathlib.Core.Bool.{true, false}
 use native.Mathlib.Omega.{arith}
 use borrow.Author.Tests.{le-leb, lt-leb, leb-true, leb-false, eq-eqb}
 use lib.Dec.{leb}
 use Rattle.wire.specs.Checks.{taken, _else_}
+use Rattle.wire.proofs.Tests.{by-test}
 use Rattle.wire.proofs.Checks.{all-passed}
 use Rattle.record.specs.Record.{hangs}
 use Rattle.record.specs.Standing.{State, complete, ongoing, missing, state, standing}
@@ -22,17 +23,16 @@ Means r (missing first last) = (first ≡ r .next .0) × (last ≡ r .top .0) ×
 
 module _ (r : Record) (h : hangs r ≡ true) where
   pub means : Means r (state r)
-  means = by (leb (r .next .0) (r .top .0)) refl (r .ended) refl where
-    past : leb (r .next .0) (r .top .0) ≡ false → r .next .0 ≡ r .top .0 + 1
-    past e =
-        let a = leb-false (r .next .0) (r .top .0) e in
-        let b = hanging r h .near in
-        omega arith
-
-    by : (a : Bool) → leb (r .next .0) (r .top .0) ≡ a → (b : Bool) → r .ended ≡ b → Means r (state r)
-    by true p b q = rw p (refl, refl, leb-true (r .next .0) (r .top .0) p)
-    by false p true q = let n = past p in rw (p, q, eq-eqb (r .next .0) (r .top .0 + 1) n) (refl, n)
-    by false p false q = rw (p, q) (refl, past p)
+  means =
+      by-test (leb (r .next .0) (r .top .0))
+      (λ p. rw p (refl, refl, leb-true (r .next .0) (r .top .0) p))
+      (λ p.
+      let a = leb-false (r .next .0) (r .top .0) p in
+      let b = hanging r h .near in
+      let n : r .next .0 ≡ r .top .0 + 1 = omega arith in
+      by-test (r .ended)
+      (λ q. rw (p, q, eq-eqb (r .next .0) (r .top .0 + 1) n) (refl, n))
+      (λ q. rw (p, q) (refl, n)))
 
   stands : standing r ≡ taken (state r)
   unfolding standing

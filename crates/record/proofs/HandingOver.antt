@@ -1,16 +1,18 @@
 -- Handing over the blocks from N on: what is delivered of a datagram is what its messages say.
 -- Assumes nothing.
 use Prim.Native.Nat.{ℕ, _+_, _-_, _≤_, _<_}
-use mathlib.Core.List.{List, []}
-use mathlib.Core.Path.{_≡_, refl}
-use mathlib.Core.Bool.{Bool, true, false}
+use mathlib.Core.List.{List, [], _∷_}
+use mathlib.Core.Path.{_≡_, refl, sym}
+use mathlib.Core.Bool.{true, false}
 use native.Mathlib.Omega.{arith}
 use lib.Dec.{leb}
 use lib.ListN.{length, drop, length-drop}
-use Rattle.wire.specs.Checks.{if_then_else_, Verdict, refused, taken, _into_}
+use Rattle.wire.specs.Checks.{_atMost_, _else_, Verdict, taken, _into_}
 use Rattle.wire.specs.Fields.{Bytes}
 use Rattle.wire.specs.Reply.{leftOf, within, Settled}
 use Rattle.wire.specs.declared.output.Written.the-variants as written
+use Rattle.wire.proofs.Tests.{by-test, impossible}
+use Rattle.wire.proofs.Checks.{into-checked}
 use Rattle.blocks.specs.Blocks.{frames, whole, cut}
 use Rattle.blocks.proofs.Skipping.{skipped, skipped-bytes}
 use Rattle.blocks.proofs.Counting.{fills-cut, length-cut}
@@ -62,31 +64,31 @@ module _ (r : Record) (first count : ℕ) (ms : List (List ℕ)) (l : length ms 
     room-alone =
         let n : r .next .0 + length others ≡ first + count = rw length-drop (omega arith) in
         let d : delivered (r .next .0) (messages first ms) ≡ others = among (r .next .0) first ms a (omega arith) in
-        rw (d, l, c, n) (by (leb (length (frames others)) (length out))) where
-          by : (t : Bool) → (if t then taken taking else refused 9) ≡ (if t then taken (frames others) else refused 9) into λ _. taken taking
-          by true = refl
-          by false = refl
+        rw (d, l, c, n)
+        (sym (into-checked ((length (frames others) atMost length out else 9) ∷ []) (taken (frames others)) (λ _. taken taking)))
 
     module _ (left : List ℕ) where
       pub tells-refusal : (n : ℕ) → Settled (within (length out) (frames others)) out (written.Refused n) left → Answered said out (takes.Refused n) left
-      tells-refusal n s = rw room-alone (by (leb (length (frames others)) (length out)) refl) where
-        by : (t : Bool) → leb (length (frames others)) (length out) ≡ t → Answered (within (length out) (frames others) into λ _. taken taking) out (takes.Refused n) left
-        by true e =
-            let z : written.Refused n ≡ written.Bytes (length (frames others)) = rw e at (s .answer) in
-            record { answer = cc; bytes = cc }
-        by false e =
-            let z : written.Refused n ≡ written.Refused 9 = rw e at (s .answer) in
-            let f : left ≡ out = rw e at (s .bytes) in
-            rw e (record { answer = cc; bytes = f })
+      tells-refusal n s =
+          rw room-alone
+          (by-test (leb (length (frames others)) (length out))
+          (λ e.
+          let z : written.Refused n ≡ written.Bytes (length (frames others)) = rw e at (s .answer) in
+          impossible (cc z))
+          (λ e.
+          let z : written.Refused n ≡ written.Refused 9 = rw e at (s .answer) in
+          let f : left ≡ out = rw e at (s .bytes) in
+          rw e (record { answer = cc; bytes = f })))
 
       pub tells-blocks : (n m : ℕ) (kept : Record) → m ≡ length others → kept ≡ taking .after → Settled (within (length out) (frames others)) out (written.Bytes n) left → Answered said out (takes.Took n m kept) left
-      tells-blocks n m kept k h s = rw room-alone (by (leb (length (frames others)) (length out)) refl) where
-        by : (t : Bool) → leb (length (frames others)) (length out) ≡ t → Answered (within (length out) (frames others) into λ _. taken taking) out (takes.Took n m kept) left
-        by true e =
-            let z : written.Bytes n ≡ written.Bytes (length (frames others)) = rw e at (s .answer) in
-            let q : n ≡ length (frames others) = cc in
-            let f : left ≡ leftOf (taken (frames others)) out = rw e at (s .bytes) in
-            rw e (record { answer = rw (q, k, h); bytes = f })
-        by false e =
-            let z : written.Bytes n ≡ written.Refused 9 = rw e at (s .answer) in
-            record { answer = cc; bytes = cc }
+      tells-blocks n m kept k h s =
+          rw room-alone
+          (by-test (leb (length (frames others)) (length out))
+          (λ e.
+          let z : written.Bytes n ≡ written.Bytes (length (frames others)) = rw e at (s .answer) in
+          let q : n ≡ length (frames others) = cc z in
+          let f : left ≡ leftOf (taken (frames others)) out = rw e at (s .bytes) in
+          rw e (record { answer = rw (q, k, h); bytes = f }))
+          (λ e.
+          let z : written.Bytes n ≡ written.Refused 9 = rw e at (s .answer) in
+          impossible (cc z)))

@@ -11,6 +11,7 @@ use lib.Seq.{drop-cons}
 use Rattle.wire.specs.Fields.{Bytes}
 use Rattle.wire.specs.Checks.{taken, Passed}
 use Rattle.wire.specs.Text.{blank}
+use Rattle.wire.specs.Datagram.{limit}
 use Rattle.wire.proofs.Tests.{nonzero, not-zero, one-of-test, one-of-fact}
 use Rattle.wire.proofs.Checks.{passed-all}
 use Rattle.wire.proofs.Width.{be-lt, bytes-drop, length-part, part-again, first-again, written-again, written-last}
@@ -29,11 +30,11 @@ read-write (accept session next) f =
 read-write (reject reason) f = laid-reject reason ∙ rw (one-of-test reason 65 83 f)
 read-write (messages first ms) f =
     let s = frames ms in
-    let l : 7 + length s ≤ 1472 = rw (length-laid first (length ms) s) at (f .size) in
+    let l : 7 + length s ≤ limit = rw (length-laid first (length ms) s) at (f .size) in
     let k = count-frames ms in
     let c = cut-frames ms (short-frames ms (omega arith)) in
     laid-messages first (length ms) s (omega arith) (omega arith)
-    ∙ rw (le-leb (7 + length s) 1472 l, c, not-zero first (f .some), le-leb (first + length ms) (2 ^ 32 - 1) (f .bound))
+    ∙ rw (le-leb (7 + length s) limit l, c, not-zero first (f .some), le-leb (first + length ms) (2 ^ 32 - 1) (f .bound))
 read-write (end total) f = laid-end total (omega arith) ∙ rw (le-leb total (2 ^ 32 - 2) f)
 
 module _ (d : List ℕ) (b : Bytes d) where
@@ -57,7 +58,7 @@ module _ (d : List ℕ) (b : Bytes d) where
       let n : drop 2 d ≡ [] = drop-of-length-le d {i = 2} (omega arith) in
       (one-of-fact (reasonJ d) 65 83 (c .1 .0), rw (← n, ← s) (first-again 74 d (omega arith) k))
 
-  back-S : length d ≤ 1472 → kind d ≡ 83 → Passed (checksS d) → let p = messages (firstS d) (messagesOf (blocksS d)) in Fit p × (write p ≡ d)
+  back-S : length d ≤ limit → kind d ≡ 83 → Passed (checksS d) → let p = messages (firstS d) (messagesOf (blocksS d)) in Fit p × (write p ≡ d)
   back-S h k c =
       let ms = messagesOf (blocksS d) in
       let l : 7 ≤ length d = leb-true 7 (length d) (c .0) in
@@ -78,8 +79,8 @@ module _ (d : List ℕ) (b : Bytes d) where
       (leb-true (totalE d) (2 ^ 32 - 2) (c .1 .0), rw (written-last 4 1 d b l) (first-again 69 d (omega arith) k))
 
   pub write-read : (p : Packet) → read d ≡ taken p → Fit p × (write p ≡ d)
-  write-read p e = let c = came d p e in by (leb-true (length d) 1472 (c .0 .1 .0)) (c .1) where
-    by : length d ≤ 1472 → Came d p → Fit p × (write p ≡ d)
+  write-read p e = let c = came d p e in by (leb-true (length d) limit (c .0 .1 .0)) (c .1) where
+    by : length d ≤ limit → Came d p → Fit p × (write p ≡ d)
     by h (by-A k c q) = rw (← q) (back-A k c)
     by h (by-J k c q) = rw (← q) (back-J k c)
     by h (by-S k c q) = rw (← q) (back-S h k c)

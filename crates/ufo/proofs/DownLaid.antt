@@ -11,6 +11,7 @@ use lib.Seq.{take-at, drop-at, sets}
 use Rattle.wire.specs.Fields.{bytesOf}
 use Rattle.wire.specs.Checks.{_is_, _atMost_, Check, _else_, checked, taken}
 use Rattle.wire.specs.Text.{blank, textThenSpaces}
+use Rattle.wire.specs.Datagram.{limit}
 use Rattle.wire.proofs.Width.{be-bytesOf, be-last, length-bytesOf}
 use Rattle.blocks.specs.Blocks.{cut, isWhole, messagesOf}
 use Rattle.ufo.specs.Down.{accept, reject, messages, end, laid, write, readA, readJ, readS, readE, read}
@@ -28,7 +29,7 @@ ofReject reason = (reason is 65 || reason is 83 else 5) ∷ []
 
 abbrev pub ofMessages : ℕ → ℕ → List ℕ → List Check
 ofMessages first count blocks =
-    (7 + length blocks atMost 1472 else 2)
+    (7 + length blocks atMost limit else 2)
     ∷ (isWhole (cut count blocks) else 4)
     ∷ (not (first is 0) else 6)
     ∷ (first + count atMost 2 ^ 32 - 1 else 7)

@@ -1,6 +1,6 @@
 -- A lawful packet is written in bytes, and a writer writes it whenever the room is enough.
 -- Assumes nothing.
-use Prim.Native.Nat.{ℕ, _-_, _^_, _≤_, _<_}
+use Prim.Native.Nat.{ℕ, _≤_, _<_}
 use mathlib.Core.Path.{_≡_, _∙_}
 use mathlib.Core.Logic.{_⊎_, inl, inr}
 use mathlib.Core.List.{List, [], _∷_, _++_}
@@ -15,6 +15,7 @@ use Rattle.wire.proofs.Textual.{text-bytes}
 use Rattle.wire.proofs.Width.{bytes-bytesOf, bytes-cons, bytes-append}
 use Rattle.blocks.specs.Blocks.{frames}
 use Rattle.blocks.proofs.Frames.{bytes-frames}
+use Rattle.ufo.specs.Numbers.{highest, capped}
 use Rattle.ufo.specs.Down.{Packet, accept, reject, messages, end, write, Fit, read}
 use Rattle.ufo.specs.WriteDown.{reply, acceptReply, rejectReply, messagesReply, endReply}
 use Rattle.ufo.proofs.DownExact.{read-write}
@@ -38,18 +39,18 @@ replyTo (reject reason) room = rejectReply reason room
 replyTo (messages first ms) room = messagesReply first (length ms) (frames ms) room
 replyTo (end total) room = endReply total room
 
-held : (lay : ℕ → List ℕ) (n room : ℕ) (p : Packet) → n ≤ 2 ^ 32 - 1 → read (lay n) ≡ taken p → reply lay n room ≡ within room (lay n)
-held lay n room p h e = rw (le-leb n (2 ^ 32 - 1) h, e)
+numbered : (lay : ℕ → List ℕ) (n room : ℕ) (p : Packet) → n ≤ highest → read (lay n) ≡ taken p → reply lay n room ≡ within room (lay n)
+numbered lay n room p h e = let same : capped n ≡ n = omega arith in rw (le-leb n highest h, same, e)
 
 pub lawful-reply : (p : Packet) (room : ℕ) → Fit p → replyTo p room ≡ within room (write p)
 unfolding acceptReply rejectReply messagesReply endReply
 lawful-reply (accept session next) room f =
-    held (λ n. write (accept session n)) next room (accept session next) (f .bound) (read-write (accept session next) f)
+    numbered (λ n. write (accept session n)) next room (accept session next) (f .bound) (read-write (accept session next) f)
 lawful-reply (reject reason) room f = rw (read-write (reject reason) f)
 lawful-reply (messages first ms) room f =
-    held (λ n. write (messages n ms)) first room (messages first ms) (omega (arith, f .bound)) (read-write (messages first ms) f)
+    numbered (λ n. write (messages n ms)) first room (messages first ms) (omega (arith, f .bound)) (read-write (messages first ms) f)
 lawful-reply (end total) room f =
-    held (λ n. write (end n)) total room (end total) (omega arith) (read-write (end total) f)
+    numbered (λ n. write (end n)) total room (end total) (omega arith) (read-write (end total) f)
 
 pub lawful-fit : (p : Packet) (room : ℕ) → Fit p → length (write p) ≤ room → replyTo p room ≡ taken (write p)
 lawful-fit p room f h = lawful-reply p room f ∙ enough-room (write p) room h

@@ -7,6 +7,7 @@ use borrow.Author.Tests.{leb-true}
 use lib.ListN.{length, drop}
 use Rattle.wire.specs.Fields.{Bytes}
 use Rattle.wire.specs.Checks.{taken}
+use Rattle.wire.specs.Datagram.{limit}
 use Rattle.wire.proofs.Tests.{impossible, nonzero}
 use Rattle.wire.proofs.Width.{bytes-drop}
 use Rattle.blocks.specs.Blocks.{frames, whole, cut, messagesOf}
@@ -16,7 +17,7 @@ use Rattle.blocks.proofs.Counting.{whole-is, count-cut}
 use Rattle.ufo.proofs.DownTaken.{Came, by-A, by-J, by-S, by-E, came}
 
 pub record Carries (d : List ℕ) (first : ℕ) (ms : List (List ℕ)) : Type 0 where
-  pub size : length d ≤ 1472
+  pub size : length d ≤ limit
   pub header : 7 ≤ length d
   pub number : firstS d ≡ first
   pub blocks : cut (length ms) (drop 7 d) ≡ whole ms
@@ -25,8 +26,8 @@ pub record Carries (d : List ℕ) (first : ℕ) (ms : List (List ℕ)) : Type 0 
 
 module _ (d : List ℕ) (first : ℕ) (ms : List (List ℕ)) where
   pub carries : read d ≡ taken (messages first ms) → Carries d first ms
-  carries e = let c = came d (messages first ms) e in by (leb-true (length d) 1472 (c .0 .1 .0)) (c .1) where
-    by : length d ≤ 1472 → Came d (messages first ms) → Carries d first ms
+  carries e = let c = came d (messages first ms) e in by (leb-true (length d) limit (c .0 .1 .0)) (c .1) where
+    by : length d ≤ limit → Came d (messages first ms) → Carries d first ms
     by h (by-A k c q) = impossible cc
     by h (by-J k c q) = impossible cc
     by h (by-E k c q) = impossible cc

@@ -1,36 +1,38 @@
 -- What each writer replies: the checks of its fields in the reader's order, then whether the packet fits the room.
 -- Assumes nothing.
-use Prim.Native.Nat.{ℕ, _+_, _-_, _^_, _≤_, _<_}
+use Prim.Native.Nat.{ℕ, _+_, _-_, _^_, _<_}
 use mathlib.Core.Path.{_≡_, refl, _∙_}
-use mathlib.Core.List.{List}
+use mathlib.Core.List.{List, [], _∷_}
 use mathlib.Core.Bool.{Bool, true, false}
 use native.Mathlib.Omega.{arith}
-use borrow.Author.Tests.{le-leb, lt-leb, leb-true, leb-false, ne-eqb}
+use borrow.Author.Tests.{lt-leb, leb-true, leb-false, ne-eqb}
 use lib.ListN.{length}
 use lib.Dec.{leb}
-use Rattle.wire.specs.Checks.{if_then_else_, Check, checked, Verdict, refused, taken, _into_}
-use Rattle.wire.specs.Reply.{Reply, within, settle}
+use Rattle.wire.specs.Checks.{if_then_else_, Check, _else_, checked, refused, taken}
+use Rattle.wire.specs.Reply.{Reply, within}
 use Rattle.wire.proofs.Tests.{by-test}
-use Rattle.wire.proofs.Checks.{through}
-use Rattle.wire.proofs.Settling.{enough-room, settle-checked}
-use Rattle.blocks.specs.Blocks.{cut, isWhole, messagesOf}
+use Rattle.wire.proofs.Settling.{settle-checked, settle-further}
+use Rattle.blocks.specs.Blocks.{cut, messagesOf}
+use Rattle.ufo.specs.Numbers.{highest, held, capped}
 use Rattle.ufo.specs.Down.{Packet, accept, reject, messages, end, laid, write, read}
 use Rattle.ufo.specs.WriteDown.{reply, acceptReply, rejectReply, messagesReply, endReply}
-use Rattle.ufo.proofs.DownLaid.{ofAccept, ofReject, ofMessages, ofEnd, length-laid, laid-accept, laid-reject, laid-messages, laid-end}
+use Rattle.ufo.proofs.DownLaid.{ofAccept, ofReject, ofMessages, ofEnd, laid-accept, laid-reject, laid-messages, laid-end}
 
 -- the checks of a packet with a number, of which those at the highest number refuse whatever is more
 module _ (lay : ℕ → List ℕ) (cs : ℕ → List Check) (p : ℕ → Packet) (reads : (n : ℕ) → n < 2 ^ 32 → read (lay n) ≡ checked (cs n) (taken (p n))) (n room : ℕ) where
-  abbrev after : Bool → Verdict Packet → Reply
-  after held v = settle (v into (λ a. if held then taken a else refused 7)) (lay n) room
-
-  numbered : (2 ^ 32 - 1 < n → checked (cs (2 ^ 32 - 1)) (refused 7) ≡ checked (cs n) (within room (lay n))) → reply lay n room ≡ checked (cs n) (within room (lay n))
+  numbered : (highest < n → checked (cs highest) (refused 7) ≡ checked (cs n) (within room (lay n))) → reply lay n room ≡ checked (cs n) (within room (lay n))
   numbered above =
-      by-test (leb n (2 ^ 32 - 1))
+      rw (reads (capped n) (omega arith))
+      (settle-further (cs (capped n)) ((held n else 7) ∷ []) (p (capped n)) (lay n) room
+      ∙ by-test (held n)
       (λ q.
-      let h = leb-true n (2 ^ 32 - 1) q in
-      rw (q, reads n (omega arith)) (through (after true) (λ k. refl) (cs n) (taken (p n))))
+      let h = leb-true n highest q in
+      let same : capped n ≡ n = omega arith in
+      rw (q, same))
       (λ q.
-      rw (q, reads (2 ^ 32 - 1) (omega arith)) (through (after false) (λ k. refl) (cs (2 ^ 32 - 1)) (taken (p (2 ^ 32 - 1))) ∙ above (leb-false n (2 ^ 32 - 1) q)))
+      let h = leb-false n highest q in
+      let same : capped n ≡ highest = omega arith in
+      rw (q, same) (above h)))
 
 pub accept-reply : (session : List ℕ) (next room : ℕ) → length session ≡ 10 → acceptReply session next room ≡ checked (ofAccept session next) (within room (write (accept session next)))
 unfolding acceptReply
@@ -50,16 +52,6 @@ messages-reply first count blocks room k =
       alike : (b : Bool) (v : Reply) → if b then v else v ≡ v
       alike true v = refl
       alike false v = refl
-
--- blocks of which nothing is refused
-pub messages-within : (first count : ℕ) (blocks : List ℕ) (room : ℕ) → count < 2 ^ 16 → 7 + length blocks ≤ 1472 → isWhole (cut count blocks) ≡ true → 0 < first → first + count ≤ 2 ^ 32 - 1 → messagesReply first count blocks room ≡ within room (laid first count blocks)
-messages-within first count blocks room k l w z h =
-    messages-reply first count blocks room k
-    ∙ rw (le-leb (7 + length blocks) 1472 l, w, ne-eqb first 0 (λ e. omega arith), le-leb (first + count) (2 ^ 32 - 1) h)
-
-pub messages-fit : (first count : ℕ) (blocks : List ℕ) (room : ℕ) → count < 2 ^ 16 → 7 + length blocks ≤ 1472 → isWhole (cut count blocks) ≡ true → 0 < first → first + count ≤ 2 ^ 32 - 1 → 7 + length blocks ≤ room → messagesReply first count blocks room ≡ taken (laid first count blocks)
-messages-fit first count blocks room k l w z h r =
-    messages-within first count blocks room k l w z h ∙ enough-room (laid first count blocks) room (rw length-laid r)
 
 pub end-reply : (total room : ℕ) → endReply total room ≡ checked (ofEnd total) (within room (write (end total)))
 unfolding endReply

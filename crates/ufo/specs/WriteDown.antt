@@ -1,19 +1,16 @@
 -- UFO, server to client: what a writer lays into lent output, or the number under which it refuses.
 -- Assumes nothing.
-use Prim.Native.Nat.{ℕ, _-_, _^_}
-use mathlib.Core.List.{List}
-use Rattle.wire.specs.Checks.{if_then_else_, _atMost_, Verdict, refused, taken, _into_}
+use Prim.Native.Nat.{ℕ}
+use mathlib.Core.List.{List, [], _∷_}
+use Rattle.wire.specs.Checks.{Verdict, taken, _else_, checked, _into_}
 use Rattle.wire.specs.Reply.{Reply, settle}
+use Rattle.ufo.specs.Numbers.{held, capped}
 use Rattle.ufo.specs.Down.{Packet, accept, reject, end, laid, write, read}
-
--- a number as its field of four bytes can hold it
-abbrev pub capped : ℕ → ℕ
-capped n = if n atMost 2 ^ 32 - 1 then n else 2 ^ 32 - 1
 
 -- what the reader says of the packet that `lay` makes of a number. One that the field can't hold is above its bound:
 -- that is 7, in its place after all else that the reader refuses
 abbrev pub verdict : (ℕ → List ℕ) → ℕ → Verdict Packet
-verdict lay n = read (lay (capped n)) into (λ p. if n atMost 2 ^ 32 - 1 then taken p else refused 7)
+verdict lay n = read (lay (capped n)) into (λ p. checked ((held n else 7) ∷ []) (taken p))
 
 abbrev pub reply : (ℕ → List ℕ) → ℕ → ℕ → Reply
 reply lay n room = settle (verdict lay n) (lay n) room

@@ -1,3 +1,4 @@
+pub mod UpOrder
 pub mod UpMessage
 pub mod UpWalk
 pub mod UpPacket

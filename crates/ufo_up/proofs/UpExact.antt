@@ -3,13 +3,12 @@
 use Prim.Native.Nat.{ℕ, _≤_, _<_}
 use mathlib.Core.List.{List, [], _∷_, map}
 use mathlib.Core.Path.{_≡_, refl, ap, sym, _∙_}
-use mathlib.Core.Bool.{true}
 use native.Mathlib.Omega.{arith}
 use borrow.Author.Tests.{leb-true}
 use lib.ListN.{length, length-map}
 use Rattle.wire.specs.Fields.{Bytes}
-use Rattle.wire.specs.Checks.{Verdict, refused, taken, ordered}
-use Rattle.wire.specs.Datagram.{opening}
+use Rattle.wire.specs.Checks.{Verdict, refused, taken}
+use Rattle.wire.specs.Datagram.{limit, opening}
 use Rattle.wire.proofs.Checks.{all-passed, not-both}
 use Rattle.blocks.specs.Blocks.{frame, frames, Cut, torn, whole, upstream, Each, Short, Full}
 use Rattle.blocks.proofs.Frames.{length-frames, frames-one, length-one, short-frames}
@@ -17,9 +16,6 @@ use Rattle.blocks.proofs.Cutting.{upstream-frames, frames-upstream}
 use Rattle.ufo_up.specs.Up.{Message, writeMessage, writeUp, FitMessage, FitAll, Fit, readMessage, readEach, readCut, readUp}
 use Rattle.ufo_up.proofs.UpPacket.{opened}
 use Rattle.ufo_up.proofs.UpExactOne.{full-message, length-message, read-message, write-message}
-
-pub ordered-opening : (d : List ℕ) → ordered (opening d) ≡ true
-ordered-opening d = refl
 
 -- reading what was written
 pub read-each : (ms : List Message) → FitAll ms → readEach (map writeMessage ms) ≡ taken ms
@@ -61,8 +57,8 @@ pub write-read : (d : List ℕ) → Bytes d → (ms : List Message) → readUp d
 unfolding readUp
 write-read d b ms e =
     let p = all-passed (opening d) (readCut (upstream d)) ms e in
-    by (upstream d) refl (p .1) (leb-true (length d) 1472 (p .0 .1 .0)) where
-      by : (q : Cut) → upstream d ≡ q → readCut q ≡ taken ms → length d ≤ 1472 → Fit ms × (writeUp ms ≡ d)
+    by (upstream d) refl (p .1) (leb-true (length d) limit (p .0 .1 .0)) where
+      by : (q : Cut) → upstream d ≡ q → readCut q ≡ taken ms → length d ≤ limit → Fit ms × (writeUp ms ≡ d)
       by torn u r l = not-both (refused 4) 4 ms refl r
       by (whole bs) u r l =
           let f = frames-upstream d bs b u in

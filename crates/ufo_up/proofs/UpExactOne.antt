@@ -3,32 +3,19 @@
 use Prim.Native.Nat.{ℕ, _^_, _≤_, _<_}
 use mathlib.Core.List.{List, [], _∷_, _++_, append-assoc}
 use mathlib.Core.Path.{_≡_, refl, ap, sym, _∙_}
-use mathlib.Core.Bool.{true, not}
+use mathlib.Core.Bool.{not}
 use native.Mathlib.Omega.{arith}
 use borrow.Author.Tests.{le-leb, eq-eqb, ne-eqb, leb-true, eqb-true}
 use lib.ListN.{length, drop, length-append, length-drop, drop-of-length-le}
 use lib.Seq.{take-at, drop-at, take-all}
 use Rattle.wire.specs.Fields.{bytesOf, Bytes}
-use Rattle.wire.specs.Checks.{_is_, refused, taken, Check, _else_, checked, Passed, ordered}
+use Rattle.wire.specs.Checks.{_is_, refused, taken, Check, _else_, checked, Passed}
 use Rattle.wire.specs.Text.{textThenSpaces}
 use Rattle.wire.proofs.Tests.{nonzero}
 use Rattle.wire.proofs.Width.{be-bytesOf, be-last, be-lt, bytes-drop, length-bytesOf, length-part, part-again, first-again, written-again, written-last}
 use Rattle.wire.proofs.Checks.{not-both, came-by}
 use Rattle.ufo_up.specs.Up.{Message, login, request, unsequenced, heartbeat, logout, writeMessage, FitMessage, kind, userL, passwordL, sessionL, firstT, countT, checksL, checksT, checksU, checksAlone, readL, readT, readU, readAlone, readMessage}
-use Rattle.ufo_up.proofs.UpMessage.{is-L, is-T, is-U, is-R, is-O}
-
--- the checks of every type stand in the readers' order
-pub ordered-L : (m : List ℕ) → ordered (checksL m) ≡ true
-ordered-L m = refl
-
-pub ordered-T : (m : List ℕ) → ordered (checksT m) ≡ true
-ordered-T m = refl
-
-pub ordered-U : (m : List ℕ) → ordered (checksU m) ≡ true
-ordered-U m = refl
-
-pub ordered-alone : (m : List ℕ) → ordered (checksAlone m) ≡ true
-ordered-alone m = refl
+use Rattle.ufo_up.proofs.UpMessage.{of-kind}
 
 -- a message has a byte or more, and a lawful one goes into a packet
 pub full-message : (m : Message) → 0 < length (writeMessage m)
@@ -61,7 +48,7 @@ checks-login u w s hu hw hs =
     let b : passwordL m ≡ w = rw (drop-at u (w ++ s) 6 hu) (take-at w s 10 hw) in
     let c : drop 17 m ≡ s = rw (← append-assoc u w s) (drop-at (u ++ w) s 16 (rw (length-append, hu, hw) refl)) in
     let t : sessionL m ≡ s = rw c (take-all 10 s (omega arith)) in
-    is-L m refl ∙ rw (eq-eqb (length m) 27 l, a, b, t)
+    of-kind m 76 refl ∙ rw (eq-eqb (length m) 27 l, a, b, t)
 
 pub checks-request : (n c : ℕ) → n < 2 ^ 32 → c < 2 ^ 16 → readMessage (writeMessage (request n c)) ≡ checked (leftT n c) (taken (request n c))
 unfolding readT
@@ -70,11 +57,11 @@ checks-request n c hn hc =
     let l : length m ≡ 7 = simp (length-append, length-bytesOf) refl in
     let a : firstT m ≡ n = be-bytesOf 4 n (bytesOf 2 c) hn in
     let b : countT m ≡ c = rw (drop-at (bytesOf 4 n) (bytesOf 2 c) 4 (length-bytesOf 4 n)) (be-last 2 c hc) in
-    is-T m refl ∙ rw (eq-eqb (length m) 7 l, a, b)
+    of-kind m 84 refl ∙ rw (eq-eqb (length m) 7 l, a, b)
 
 pub read-unsequenced : (b : List ℕ) → length b ≤ 1469 → readMessage (writeMessage (unsequenced b)) ≡ taken (unsequenced b)
 unfolding readU
-read-unsequenced b h = is-U (85 ∷ b) refl ∙ rw (le-leb (length (85 ∷ b)) 1470 (omega arith))
+read-unsequenced b h = of-kind (85 ∷ b) 85 refl ∙ rw (le-leb (length (85 ∷ b)) 1470 (omega arith))
 
 -- reading what was written
 pub read-message : (m : Message) → FitMessage m → readMessage (writeMessage m) ≡ taken m
@@ -83,8 +70,8 @@ read-message (login u w s) f = checks-login u w s (f .0 .0) (f .1 .0) (f .2 .0) 
 read-message (request n c) f =
     checks-request n c (f .1) (f .3) ∙ rw (ne-eqb n 0 (λ e. omega arith), ne-eqb c 0 (λ e. omega arith))
 read-message (unsequenced b) f = read-unsequenced b (f .1)
-read-message heartbeat f = is-R (82 ∷ []) refl
-read-message logout f = is-O (79 ∷ []) refl
+read-message heartbeat f = of-kind (82 ∷ []) 82 refl
+read-message logout f = of-kind (79 ∷ []) 79 refl
 
 -- writing what was read
 module _ (s : List ℕ) (b : Bytes s) (m : Message) where

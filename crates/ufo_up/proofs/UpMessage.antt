@@ -12,31 +12,15 @@ use Rattle.blocks.specs.Blocks.{stated, endAt, blockAt}
 use Rattle.blocks.specs.declared.Block.the-variants as block
 use Rattle.blocks.proofs.Steps.{missed}
 use Rattle.blocks.proofs.Found.{own, Found}
-use Rattle.ufo_up.specs.Up.{Message, heartbeat, logout, kind, readL, readT, readU, readAlone, readMessage, messageAt, upOf}
+use Rattle.ufo_up.specs.Up.{Message, kind, byKind, readAlone, readMessage, messageAt, upOf}
 use Rattle.ufo_up.specs.declared.up.Up.{Up}
 use Rattle.ufo_up.specs.declared.up.Up.the-variants as up
 
 -- each type byte has its reader
 module _ (m : List ℕ) where
-  pub is-L : kind m ≡ 76 → readMessage m ≡ readL m
+  pub of-kind : (n : ℕ) → kind m ≡ n → readMessage m ≡ byKind n m
   unfolding readMessage
-  is-L e = rw e
-
-  pub is-T : kind m ≡ 84 → readMessage m ≡ readT m
-  unfolding readMessage
-  is-T e = rw e
-
-  pub is-U : kind m ≡ 85 → readMessage m ≡ readU m
-  unfolding readMessage
-  is-U e = rw e
-
-  pub is-R : kind m ≡ 82 → readMessage m ≡ readAlone heartbeat m
-  unfolding readMessage
-  is-R e = rw e
-
-  pub is-O : kind m ≡ 79 → readMessage m ≡ readAlone logout m
-  unfolding readMessage
-  is-O e = rw e
+  of-kind n e = rw e
 
   pub is-none : (kind m ≡ 76 → ⊥) → (kind m ≡ 84 → ⊥) → (kind m ≡ 85 → ⊥) → (kind m ≡ 82 → ⊥) → (kind m ≡ 79 → ⊥) → readMessage m ≡ refused 3
   unfolding readMessage

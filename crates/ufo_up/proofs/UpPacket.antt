@@ -6,14 +6,15 @@ use mathlib.Core.Path.{_≡_, refl, sym}
 use mathlib.Core.Bool.{true, true≢false}
 use borrow.Author.Tests.{le-leb, ne-eqb}
 use lib.ListN.{length}
+use Rattle.wire.specs.Datagram.{limit}
 use Rattle.blocks.specs.Blocks.{Cut, torn, whole, upstream, isWhole, messagesOf, countOf}
 use Rattle.blocks.specs.declared.Count.the-variants as count
 use Rattle.ufo_up.specs.Up.{readEach, readCut, readUp, upstreamOf}
 use Rattle.ufo_up.specs.declared.up.Upstream.the-variants as packet
 
-pub opened : (d : List ℕ) → (length d ≡ 0 → ⊥) → length d ≤ 1472 → readUp d ≡ readCut (upstream d)
+pub opened : (d : List ℕ) → (length d ≡ 0 → ⊥) → length d ≤ limit → readUp d ≡ readCut (upstream d)
 unfolding readUp
-opened d some h = rw (ne-eqb (length d) 0 some, le-leb (length d) 1472 h)
+opened d some h = rw (ne-eqb (length d) 0 some, le-leb (length d) limit h)
 
 pub torn-count : (q : Cut) (n : ℕ) → countOf q ≡ count.Refused n → packet.Refused n ≡ upstreamOf (readCut q)
 torn-count torn n e = cc

@@ -1,6 +1,6 @@
 -- What a writer's reply is, by the message's fields: the checks that are left of the reader's, then the room.
 -- Assumes nothing.
-use Prim.Native.Nat.{ℕ, _^_, _≤_, _<_, min}
+use Prim.Native.Nat.{ℕ, _^_, _≤_, _<_}
 use mathlib.Core.List.{List, [], _∷_}
 use mathlib.Core.Path.{_≡_, refl, ap, _∙_}
 use mathlib.Core.Bool.{true}
@@ -10,15 +10,17 @@ use lib.ListN.{length, length-append}
 use lib.Dec.{leb, eqb}
 use Rattle.wire.specs.Checks.{_is_, _atMost_, taken, Check, _else_, checked}
 use Rattle.wire.specs.Reply.{within}
+use Rattle.wire.specs.Datagram.{limit}
 use Rattle.wire.proofs.Tests.{by-test}
 use Rattle.wire.proofs.Checks.{into-checked}
-use Rattle.wire.proofs.Settling.{settle-checked}
+use Rattle.wire.proofs.Settling.{settle-further}
 use Rattle.wire.proofs.Width.{length-bytesOf}
 use Rattle.blocks.specs.Blocks.{frame, whole, upstream}
 use Rattle.blocks.proofs.Frames.{length-frame, frames-one}
 use Rattle.blocks.proofs.Cutting.{upstream-frames}
 use Rattle.ufo_up.specs.Up.{Message, login, request, unsequenced, heartbeat, logout, writeMessage, FitMessage, readMessage, readEach, readCut, readUp}
-use Rattle.ufo_up.specs.WriteUp.{capped, held, verdict, reply}
+use Rattle.ufo.specs.Numbers.{highest, held, capped}
+use Rattle.ufo_up.specs.WriteUp.{cappedIn, heldIn, verdict, reply}
 use Rattle.ufo_up.proofs.UpPacket.{opened}
 use Rattle.ufo_up.proofs.UpExactOne.{full-message, length-message, leftL, leftT, checks-login, checks-request, read-unsequenced, read-message}
 
@@ -34,30 +36,28 @@ read-framed cs m l e =
     ∙ rw e (into-checked cs (taken m) (λ x. taken (x ∷ [])))
 
 -- and the reply
-replies : (cs : List Check) (m : Message) (room : ℕ) → length (writeMessage (capped m)) ≤ 1470 → readMessage (writeMessage (capped m)) ≡ checked cs (taken (capped m)) → reply m room ≡ checked cs (checked ((held m else 7) ∷ []) (within room (frame (writeMessage m))))
+replies : (cs : List Check) (m : Message) (room : ℕ) → length (writeMessage (cappedIn m)) ≤ 1470 → readMessage (writeMessage (cappedIn m)) ≡ checked cs (taken (cappedIn m)) → reply m room ≡ checked cs (checked ((heldIn m else 7) ∷ []) (within room (frame (writeMessage m))))
 unfolding reply verdict
 replies cs m room l e =
-    let packet = frame (writeMessage m) in
-    let last = (held m else 7) ∷ [] in
-    let v = taken (capped m ∷ []) in
-    rw (read-framed cs (capped m) l e, into-checked cs v (λ ms. checked last (taken ms)), settle-checked cs (checked last v) packet room, settle-checked last v packet room)
+    rw (read-framed cs (cappedIn m) l e)
+    (settle-further cs ((heldIn m else 7) ∷ []) (cappedIn m ∷ []) (frame (writeMessage m)) room)
 
 pub reply-login : (u w s : List ℕ) (room : ℕ) → length u ≡ 6 → length w ≡ 10 → length s ≡ 10 → reply (login u w s) room ≡ checked (leftL u w s) (within room (frame (writeMessage (login u w s))))
 reply-login u w s room hu hw hs =
     let l : length (writeMessage (login u w s)) ≡ 27 = simp (length-append, hu, hw, hs) refl in
     replies (leftL u w s) (login u w s) room (omega arith) (checks-login u w s hu hw hs)
 
-pub reply-request : (n c room : ℕ) → c < 2 ^ 16 → reply (request n c) room ≡ checked (leftT n c) (checked ((n atMost 4294967295 else 7) ∷ []) (within room (frame (writeMessage (request n c)))))
+pub reply-request : (n c room : ℕ) → c < 2 ^ 16 → reply (request n c) room ≡ checked (leftT n c) (checked ((held n else 7) ∷ []) (within room (frame (writeMessage (request n c)))))
 reply-request n c room h =
-    let k = min n 4294967295 in
+    let k = capped n in
     let l : length (writeMessage (request k c)) ≡ 7 = simp (length-append, length-bytesOf) refl in
     let e = replies (leftT k c) (request n c) room (omega arith) (checks-request k c (omega arith) h) in
     rw (same n) at e where
-      same : (n : ℕ) → min n 4294967295 is 0 ≡ n is 0
+      same : (n : ℕ) → capped n is 0 ≡ n is 0
       same n =
           by-test (eqb n 0)
-          (λ q. let z = eqb-true n 0 q in rw q (eq-eqb (min n 4294967295) 0 (omega arith)))
-          (λ q. let z = eqb-false n 0 q in rw q (ne-eqb (min n 4294967295) 0 (λ e. z (omega arith))))
+          (λ q. let z = eqb-true n 0 q in rw q (eq-eqb (capped n) 0 (omega arith)))
+          (λ q. let z = eqb-false n 0 q in rw q (ne-eqb (capped n) 0 (λ e. z (omega arith))))
 
 pub reply-unsequenced : (b : List ℕ) (room : ℕ) → reply (unsequenced b) room ≡ checked ((length b atMost 1469 else 2) ∷ []) (within room (frame (85 ∷ b)))
 unfolding reply verdict readUp
@@ -69,20 +69,20 @@ reply-unsequenced b room =
     (λ q.
     let l = leb-false (length b) 1469 q in
     let n = length-frame (85 ∷ b) in
-    rw (q, ne-eqb (length (frame (85 ∷ b))) 0 (λ e. omega arith), lt-leb (length (frame (85 ∷ b))) 1472 (omega arith)))
+    rw (q, ne-eqb (length (frame (85 ∷ b))) 0 (λ e. omega arith), lt-leb (length (frame (85 ∷ b))) limit (omega arith)))
 
 -- a lawful message is written if there is room
 pub reply-fit : (m : Message) (room : ℕ) → FitMessage m → reply m room ≡ within room (frame (writeMessage m))
 reply-fit m room f =
     let h = holds m f in
-    let l : length (writeMessage (capped m)) ≤ 1470 = rw (h .1) (length-message m f) in
-    let e : readMessage (writeMessage (capped m)) ≡ taken (capped m) = rw (h .1) (read-message m f) in
+    let l : length (writeMessage (cappedIn m)) ≤ 1470 = rw (h .1) (length-message m f) in
+    let e : readMessage (writeMessage (cappedIn m)) ≡ taken (cappedIn m) = rw (h .1) (read-message m f) in
     replies [] m room l e ∙ rw (h .0) where
-      holds : (m : Message) → FitMessage m → (held m ≡ true) × (capped m ≡ m)
+      holds : (m : Message) → FitMessage m → (heldIn m ≡ true) × (cappedIn m ≡ m)
       holds (login u w s) f = (refl, refl)
       holds (request n c) f =
-          let s : min n 4294967295 ≡ n = omega (arith, f .1) in
-          (le-leb n 4294967295 (omega (arith, f .1)), ap (λ (k : ℕ). request k c) s)
+          let s : capped n ≡ n = omega (arith, f .1) in
+          (le-leb n highest (omega (arith, f .1)), ap (λ (k : ℕ). request k c) s)
       holds (unsequenced b) f = (refl, refl)
       holds heartbeat f = (refl, refl)
       holds logout f = (refl, refl)

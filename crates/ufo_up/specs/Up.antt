@@ -115,14 +115,18 @@ checksAlone m = (length m is 1 else 4) ∷ []
 unfoldable pub readAlone : Message → List ℕ → Verdict Message
 readAlone said m = checked (checksAlone m) (taken said)
 
-unfoldable pub readMessage : List ℕ → Verdict Message
-readMessage m =
-    if kind m is 76 then readL m else
-    if kind m is 84 then readT m else
-    if kind m is 85 then readU m else
-    if kind m is 82 then readAlone heartbeat m else
-    if kind m is 79 then readAlone logout m else
+-- by the type byte
+abbrev pub byKind : ℕ → List ℕ → Verdict Message
+byKind kind m =
+    if kind is 76 then readL m else
+    if kind is 84 then readT m else
+    if kind is 85 then readU m else
+    if kind is 82 then readAlone heartbeat m else
+    if kind is 79 then readAlone logout m else
     refused 3
+
+unfoldable pub readMessage : List ℕ → Verdict Message
+readMessage m = byKind (kind m) m
 
 -- each message in turn: the first that is refused gives the number
 unfoldable pub readEach : List (List ℕ) → Verdict (List Message)

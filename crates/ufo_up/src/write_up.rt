@@ -11,6 +11,7 @@ ghost use Rattle.wire.specs.Reply.{Settled, within};
 ghost use Rattle.blocks.specs.Blocks.{frame};
 ghost use Rattle.ufo_up.specs.Up.{login, request, unsequenced, heartbeat, logout};
 ghost use Rattle.ufo_up.specs.WriteUp.{reply};
+use ufo::down::HIGHEST;
 use wire::fields;
 use wire::kinds::Name;
 use wire::kinds::Sequence;
@@ -21,8 +22,6 @@ use wire::output::Written;
 use wire::refusal;
 use wire::text;
 
-// The most that the four bytes of a number hold.
-const NUMBER: u64 = 4294967295;
 // The most data that a packet holds.
 const DATA: usize = 1469;
 
@@ -67,7 +66,7 @@ pub fn write_request(first: Sequence, count: u16, out: &mut [u8]) -> Written
     if count == 0 {
         return Written::Refused(refusal::ABSENT);
     }
-    if NUMBER < number {
+    if HIGHEST < number {
         return Written::Refused(refusal::BOUND);
     }
     if out.len() < 9 {

@@ -9,11 +9,11 @@ use borrow.Author.Tests.{le-leb, lt-leb}
 use lib.ListN.{length, take, drop, length-drop, drop-of-length-le}
 use lib.Seq.{sets, sets-eq, drop-drop, take-all, take-length}
 use borrow.Rule.Slice.PartMut.{putMid, midOf}
-use Rattle.wire.specs.Checks.{_atMost_, Check, checked, Verdict, refused, taken}
+use Rattle.wire.specs.Checks.{_atMost_, Check, checked, Verdict, refused, taken, _into_}
 use Rattle.wire.specs.Reply.{Reply, Settled, within, settle}
 use Rattle.wire.specs.declared.output.Written.{Written}
 use Rattle.wire.specs.declared.output.Written.the-variants.{Refused, Bytes}
-use Rattle.wire.proofs.Checks.{not-both, taken-same, chosen, through}
+use Rattle.wire.proofs.Checks.{not-both, taken-same, chosen, through, into-checked}
 use Rattle.wire.proofs.Width.{length-part}
 
 -- a refusal
@@ -62,6 +62,11 @@ module _ (reply : Reply) (packet out : List ℕ) (e : reply ≡ within (length o
 -- what follows some checks is settled once they are passed
 pub settle-checked : {A : Type 0} (cs : List Check) (v : Verdict A) (packet : List ℕ) (room : ℕ) → settle (checked cs v) packet room ≡ checked cs (settle v packet room)
 settle-checked cs v packet room = through (λ w. settle w packet room) (λ n. refl) cs v
+
+-- and so with more checks after what was taken
+pub settle-further : {A : Type 0} (cs more : List Check) (a : A) (packet : List ℕ) (room : ℕ) → settle (checked cs (taken a) into (λ b. checked more (taken b))) packet room ≡ checked cs (checked more (within room packet))
+settle-further cs more a packet room =
+    rw (into-checked cs (taken a) (λ b. checked more (taken b)), settle-checked cs (checked more (taken a)) packet room, settle-checked more (taken a) packet room)
 
 -- bytes stored into as many bytes replace them
 pub replaced : (packet out : List ℕ) → length packet ≡ length out → sets out 0 packet ≡ packet

@@ -5,6 +5,7 @@ use native.Mathlib.Omega.{arith}
 use borrow.Author.Needs.{needs}
 use borrow.Author.Tests.{lt-leb, eq-eqb, ne-eqb}
 use lib.ListN.{length}
+use Rattle.wire.specs.Datagram.{limit}
 use Rattle.wire.proofs.Settling.{refuses, settled-by}
 use Rattle.wire.proofs.Tests.{held, failed}
 use Rattle.lend.specs.Log.{hangs}
@@ -39,7 +40,7 @@ returns-4 : tie.Need-returns-4
 unfolding answerReply
 returns-4 c =
     let a = c .before .before .before .before .before .before .before .args in
-    refuses _ _ 9 (rw (hung (c .before .before .before), ne-eqb (a .first .0) 0 (λ e. omega arith), ne-eqb (a .count) 0 (λ e. omega arith), lt-leb 1472 (length (now (a .out))) (omega arith)))
+    refuses _ _ 9 (rw (hung (c .before .before .before), ne-eqb (a .first .0) 0 (λ e. omega arith), ne-eqb (a .count) 0 (λ e. omega arith), lt-leb limit (length (now (a .out))) (omega arith)))
 
 send-requires : tie.Need-send-requires
 send-requires c κs = (hung (c .before .before .before .before .before), omega arith, omega arith, omega arith)

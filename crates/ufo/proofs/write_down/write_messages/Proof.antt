@@ -10,6 +10,7 @@ use native.Mathlib.Omega.{arith}
 use Rattle.wire.specs.Fields.{bytesOf}
 use Rattle.wire.specs.Checks.{_is_, _atMost_, _else_, checked}
 use Rattle.wire.specs.Reply.{within}
+use Rattle.wire.specs.Datagram.{limit}
 use Rattle.wire.proofs.Settling.{refuses, lacks-room, has-room}
 use Rattle.blocks.specs.Blocks.{cut, isWhole}
 use Rattle.blocks.proofs.Counting.{fills-says}
@@ -33,7 +34,7 @@ framed c =
     let b = c .before in
     let a = b .before .before .before .before .args in
     let k : a .count < 2 ^ 16 = omega arith in
-    rw (messages-reply, le-leb (7 + length (now (a .blocks))) 1472 (omega (arith, b .before .if1 .left)), found b, not-false (b .exactly .result) (c .if2 .left))
+    rw (messages-reply, le-leb (7 + length (now (a .blocks))) limit (omega (arith, b .before .if1 .left)), found b, not-false (b .exactly .result) (c .if2 .left))
 
 -- nothing is refused but for want of room
 fits : (c : tie.Else4) → let a = c .before .before .before .before .before .before .before .args in messagesReply (a .first .0) (a .count) (now (a .blocks)) (length (now (a .out))) ≡ within (length (now (a .out))) (laid (a .first .0) (a .count) (now (a .blocks)))
@@ -48,7 +49,7 @@ returns : tie.Need-returns
 returns c =
     let a = c .before .before .before .args in
     let k : a .count < 2 ^ 16 = omega arith in
-    rw (messages-reply, lt-leb (7 + length (now (a .blocks))) 1472 (c .if1 .taken)) (refuses _ _ 2 refl)
+    rw (messages-reply, lt-leb (7 + length (now (a .blocks))) limit (c .if1 .taken)) (refuses _ _ 2 refl)
 
 exactly-requires : tie.Need-exactly-requires
 exactly-requires c κs = search needs
@@ -58,7 +59,7 @@ returns-2 c =
     let b = c .before in
     let a = b .before .before .before .before .args in
     let k : a .count < 2 ^ 16 = omega arith in
-    rw (messages-reply, le-leb (7 + length (now (a .blocks))) 1472 (omega (arith, b .before .if1 .left)), found b, not-true (b .exactly .result) (c .if2 .taken)) (refuses _ _ 4 refl)
+    rw (messages-reply, le-leb (7 + length (now (a .blocks))) limit (omega (arith, b .before .if1 .left)), found b, not-true (b .exactly .result) (c .if2 .taken)) (refuses _ _ 4 refl)
 
 returns-3 : tie.Need-returns-3
 returns-3 c = rw (framed (c .before), c .if3 .taken) (refuses _ _ 6 refl)

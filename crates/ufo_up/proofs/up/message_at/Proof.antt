@@ -8,7 +8,7 @@ use lib.ListN.{take, drop}
 use Rattle.wire.specs.Checks.{Verdict, refused}
 use Rattle.ufo_up.specs.Up.{Message, heartbeat, logout, readMessage, messageAt, upOf}
 use Rattle.ufo_up.specs.declared.up.Up.{Up}
-use Rattle.ufo_up.proofs.UpMessage.{is-L, is-T, is-U, is-R, is-O, is-none, alone, none-at, empty-at, answers}
+use Rattle.ufo_up.proofs.UpMessage.{of-kind, is-none, alone, none-at, empty-at, answers}
 use borrow.Author.Needs.{needs}
 use Rattle.ufo_up.proofs.up.message_at.Statement.{statement}
 use Rattle.ufo_up.proofs.up.message_at.Tie as tie
@@ -75,19 +75,19 @@ returns-2 c =
     none-at (now (a .d)) (a .place) (c .before .n .given .0 .0) (cc (c .before .before .before .next .ensures, c .before .n .given .1))
 
 returns-3 : tie.Need-returns-3
-returns-3 c = answered (c .before .before .before .before) _ _ (c .read-l .ensures) (is-L _ (c .before .match2 .keys1))
+returns-3 c = answered (c .before .before .before .before) _ _ (c .read-l .ensures) (of-kind _ 76 (c .before .match2 .keys1))
 
 returns-4 : tie.Need-returns-4
-returns-4 c = answered (c .before .before .before .before) _ _ (c .read-t .ensures) (is-T _ (c .before .match2 .keys2))
+returns-4 c = answered (c .before .before .before .before) _ _ (c .read-t .ensures) (of-kind _ 84 (c .before .match2 .keys2))
 
 returns-5 : tie.Need-returns-5
-returns-5 c = answered (c .before .before .before .before) _ _ (c .read-u .ensures) (is-U _ (c .before .match2 .keys3))
+returns-5 c = answered (c .before .before .before .before) _ _ (c .read-u .ensures) (of-kind _ 85 (c .before .match2 .keys3))
 
 returns-6 : tie.Need-returns-6
-returns-6 c = answered (c .before .before .before .before) _ _ (c .alone .ensures ∙ alone _ heartbeat _) (is-R _ (c .before .match2 .keys4))
+returns-6 c = answered (c .before .before .before .before) _ _ (c .alone .ensures ∙ alone _ heartbeat _) (of-kind _ 82 (c .before .match2 .keys4))
 
 returns-7 : tie.Need-returns-7
-returns-7 c = answered (c .before .before .before .before) _ _ (c .alone2 .ensures ∙ alone _ logout _) (is-O _ (c .before .match2 .keys5))
+returns-7 c = answered (c .before .before .before .before) _ _ (c .alone2 .ensures ∙ alone _ logout _) (of-kind _ 79 (c .before .match2 .keys5))
 
 returns-8 : tie.Need-returns-8
 returns-8 c =

@@ -4,12 +4,13 @@ use denote.Ref.{now}
 use native.Mathlib.Omega.{arith}
 use lib.ListN.{length}
 use Rattle.wire.specs.Fields.{bytesOf}
-use Rattle.wire.specs.Checks.{_atMost_, _else_, checked}
+use Rattle.wire.specs.Checks.{_else_, checked}
 use Rattle.wire.specs.Reply.{within}
 use Rattle.wire.proofs.Settling.{refuses, writes}
 use Rattle.wire.proofs.Tests.{tests}
 use Rattle.blocks.specs.Blocks.{frame}
 use Rattle.ufo_up.specs.Up.{request, writeMessage}
+use Rattle.ufo.specs.Numbers.{held}
 use Rattle.ufo_up.specs.WriteUp.{reply}
 use Rattle.ufo_up.proofs.UpExactOne.{leftT}
 use Rattle.ufo_up.proofs.UpReplies.{reply-request}
@@ -19,7 +20,7 @@ use Rattle.ufo_up.proofs.write_up.write_request.Statement.{statement}
 use Rattle.ufo_up.proofs.write_up.write_request.Tie as tie
 
 -- the reply, by what is left to check
-replies : (c : tie.Start) → let a = c .args in reply (request (a .first .0) (a .count)) (length (now (a .out))) ≡ checked (leftT (a .first .0) (a .count)) (checked ((a .first .0 atMost 4294967295 else 7) ∷ []) (within (length (now (a .out))) (frame (writeMessage (request (a .first .0) (a .count))))))
+replies : (c : tie.Start) → let a = c .args in reply (request (a .first .0) (a .count)) (length (now (a .out))) ≡ checked (leftT (a .first .0) (a .count)) (checked ((held (a .first .0) else 7) ∷ []) (within (length (now (a .out))) (frame (writeMessage (request (a .first .0) (a .count))))))
 replies c = let a = c .args in reply-request (a .first .0) (a .count) (length (now (a .out))) (omega arith)
 
 returns : tie.Need-returns
