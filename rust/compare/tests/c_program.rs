@@ -50,8 +50,11 @@ fn the_header_and_the_archive_serve_a_c_program() {
 
 #[test]
 fn the_readme_s_c_program_runs() {
-    let readme = fs::read_to_string(here().join("../../README.md")).expect("the README can be read");
-    let (_, rest) = readme.split_once("```c\n").expect("the README has a C program");
+    let readme =
+        fs::read_to_string(here().join("../../README.md")).expect("the README can be read");
+    let (_, rest) = readme
+        .split_once("```c\n")
+        .expect("the README has a C program");
     let (program, _) = rest.split_once("```").expect("which ends");
     let source = scratch("readme.c");
     fs::write(&source, program).expect("the program can be written");

@@ -31,8 +31,8 @@ impl Log {
 
     /// Adds a message; 10, 13, 2, 7, 9.
     pub fn add(&mut self, bytes: &mut [u8], message: &[u8]) -> Result<(), Refusal> {
-        self.check(bytes)?;
-        let grown = self.grown(message.len(), bytes.len())?;
+        self.growing(bytes)?;
+        let grown = self.grown(1, message.len(), 2 + message.len(), bytes.len())?;
         let length = (message.len() as u16).to_be_bytes();
         lay(&[&length, message], &mut bytes[self.used..grown.used])?;
         *self = grown;
@@ -40,28 +40,23 @@ impl Log {
     }
 
     /// Adds messages that are lent as blocks, all of them or none, and says how many there were.
-    /// 10; 4 if the blocks don't end exactly at the end; then what adding them one by one would
-    /// give first.
+    /// 10, 13, 4 if the blocks don't end exactly at the end, 2 if any message is too long, 7, 9.
     pub fn add_many(&mut self, bytes: &mut [u8], messages: &[u8]) -> Result<u64, Refusal> {
-        self.check(bytes)?;
-        let mut grown = Ok(*self);
+        self.growing(bytes)?;
+        let (mut added, mut longest) = (0, 0);
         for message in Blocks::over(messages) {
-            let length = message?.len();
-            grown = grown.and_then(|log| log.grown(length, bytes.len()));
+            longest = longest.max(message?.len());
+            added += 1;
         }
-        let grown = grown?;
+        let grown = self.grown(added, longest, messages.len(), bytes.len())?;
         bytes[self.used..grown.used].copy_from_slice(messages);
-        let added = grown.count - self.count;
         *self = grown;
         Ok(added)
     }
 
     /// Declares the end; 10, 13.
     pub fn declare_end(&mut self, bytes: &[u8]) -> Result<(), Refusal> {
-        self.check(bytes)?;
-        if self.ended {
-            return Err(Refusal::AfterEnd);
-        }
+        self.growing(bytes)?;
         self.ended = true;
         Ok(())
     }
@@ -136,23 +131,31 @@ impl Log {
         ufo::write_down(&Down::End { total: self.count }, slip)
     }
 
-    /// The log with one more message of this length in lent bytes of that size; 13, 2, 7, 9.
-    fn grown(self, length: usize, room: usize) -> Result<Log, Refusal> {
+    /// 10, then 13 if the end was declared.
+    fn growing(&self, bytes: &[u8]) -> Result<(), Refusal> {
+        self.check(bytes)?;
         if self.ended {
             return Err(Refusal::AfterEnd);
         }
-        if length > LONGEST_MESSAGE {
+        Ok(())
+    }
+
+    /// The log with so many more messages, the longest of them of that length and their blocks of
+    /// that many bytes, in lent bytes with that room; 2, 7, 9.
+    fn grown(self, added: u64, longest: usize, length: usize, room: usize) -> Result<Log, Refusal> {
+        if longest > LONGEST_MESSAGE {
             return Err(Refusal::Oversize);
         }
-        if self.count >= ufo::HIGHEST {
+        let count = self.count + added;
+        if count > ufo::HIGHEST {
             return Err(Refusal::Bound);
         }
-        let used = self.used + 2 + length;
+        let used = self.used + length;
         if used > room {
             return Err(Refusal::Room);
         }
         Ok(Log {
-            count: self.count + 1,
+            count,
             used,
             ..self
         })
@@ -199,25 +202,24 @@ mod tests {
 
     #[test]
     fn a_full_log_takes_no_more() {
-        let last_but_one = Log {
-            count: FULL.count - 1,
+        let nearly = Log {
+            count: FULL.count - 2,
             ..FULL
         };
-        assert_eq!(last_but_one.grown(0, usize::MAX).unwrap().count, FULL.count);
-        assert_eq!(FULL.grown(0, usize::MAX), Err(Refusal::Bound));
+        for (added, count) in [(0, FULL.count - 2), (1, FULL.count - 1), (2, FULL.count)] {
+            assert_eq!(nearly.grown(added, 0, 0, usize::MAX).unwrap().count, count);
+        }
+        assert_eq!(nearly.grown(3, 0, 6, usize::MAX), Err(Refusal::Bound));
+        assert_eq!(FULL.grown(1, 0, 2, usize::MAX), Err(Refusal::Bound));
     }
 
     #[test]
-    fn refusals_of_adding_come_in_order() {
-        let ended = Log {
-            ended: true,
-            ..FULL
-        };
-        assert_eq!(ended.grown(LONGEST_MESSAGE + 1, 0), Err(Refusal::AfterEnd));
-        assert_eq!(FULL.grown(LONGEST_MESSAGE + 1, 0), Err(Refusal::Oversize));
-        assert_eq!(FULL.grown(0, 0), Err(Refusal::Bound));
-        assert_eq!(Log::default().grown(0, 1), Err(Refusal::Room));
-        assert_eq!(Log::default().grown(0, 2).unwrap().used, 2);
+    fn refusals_of_growing_come_in_order() {
+        let long = LONGEST_MESSAGE + 1;
+        assert_eq!(FULL.grown(1, long, 2 + long, 0), Err(Refusal::Oversize));
+        assert_eq!(FULL.grown(1, 0, 2, 0), Err(Refusal::Bound));
+        assert_eq!(Log::default().grown(1, 0, 2, 1), Err(Refusal::Room));
+        assert_eq!(Log::default().grown(1, 0, 2, 2).unwrap().used, 2);
     }
 
     #[test]

@@ -33,8 +33,8 @@
 //! - Minus zero lies between 0 and any bound. The wait of 1000 while nothing was timed is held
 //!   between floor and ceiling too.
 //! - Asking refuses a rule or an elapsed time out of range (15) even if nothing is missing.
-//! - Adding many messages at once: 10, then 4 if their blocks don't end exactly at the end, then
-//!   what the first message that is refused gives; no messages at all are taken even after the end.
+//! - Adding many messages at once: 10, 13, then 4 if their blocks don't end exactly at the end, then
+//!   2, 7 and 9 over all of them, and all are added or none; no messages at all are 13 after the end.
 
 #![forbid(unsafe_code)]
 #![warn(missing_docs)]

@@ -89,7 +89,7 @@ fn adding() {
 #[test]
 fn adding_many_is_adding_one_by_one_or_nothing() {
     let mut dice = Dice::seeded(1463);
-    let mut refused = [0; 17];
+    let mut seen = [0; 17];
     for _ in 0..2000 {
         let sizes: Vec<usize> = (0..dice.below(6))
             .map(|_| dice.pick(&[0, 1, 5, 40, 1463, 1464]))
@@ -107,31 +107,57 @@ fn adding_many_is_adding_one_by_one_or_nothing() {
         }
         let before = one_by_one.clone();
         let mut together = one_by_one.clone();
-        let result = lent
+        let refused = lent
             .iter()
-            .try_for_each(|message| one_by_one.0.add(&mut one_by_one.1, message));
+            .filter_map(|message| one_by_one.0.add(&mut one_by_one.1, message).err());
+        let refused: Vec<u8> = refused.map(|refusal| refusal.number()).collect();
+        // 2 before 9, whichever message meets it
+        let expected = match [2, 9].into_iter().find(|one| refused.contains(one)) {
+            _ if before.0.ended => Err(13),
+            Some(one) => Err(one),
+            None => Ok(lent.len() as u64),
+        };
         let added = together.0.add_many(&mut together.1, &blocks(&lent));
-        assert_eq!(added, result.map(|()| lent.len() as u64));
-        let expected = if result.is_ok() { one_by_one } else { before };
-        assert_eq!(together, expected);
-        refused[usize::from(number(result))] += 1;
+        assert_eq!(added.map_err(|refusal| refusal.number()), expected);
+        assert_eq!(together, if expected.is_ok() { one_by_one } else { before });
+        seen[usize::from(number(added))] += 1;
     }
-    for seen in [0, 2, 9, 13] {
-        assert!(refused[seen] > 50, "{seen} came {} times", refused[seen]);
+    for refusal in [0, 2, 9, 13] {
+        assert!(seen[refusal] > 50, "{refusal} came {} times", seen[refusal]);
     }
 }
 
 #[test]
-fn many_that_are_cut_short_are_4_before_anything_about_one_of_them() {
-    let mut bytes = [0xee; 40];
+fn refusals_of_many_come_in_order_over_all_of_them() {
+    let cut = b"\0\x02a";
+    let long = blocks(&[b"a message without room for it", &[0; 1464]]);
+    let long_and_cut = [&long[..], cut].concat();
+    let mut bytes = [0xee; 20];
     let mut log = Log::default();
-    for cut in [&b"\0"[..], b"\0\x01", b"\0\0\0\x02a"] {
-        assert_eq!(number(log.add_many(&mut bytes, cut)), 4);
-        let long = [&blocks(&[&[0; 1464]])[..], cut].concat();
-        assert_eq!(number(log.add_many(&mut bytes, &long)), 4);
+    log.add(&mut bytes, b"one").unwrap();
+    let before = (log, bytes);
+    for (many, expected) in [
+        (&long_and_cut[..], 4),
+        (cut, 4),
+        (b"\0", 4),
+        (b"\0\0\0\x02a", 4),
+        (&long, 2), // not the 9 of the first
+        (&blocks(&[b"", b"a message without room"]), 9),
+    ] {
+        assert_eq!(number(log.add_many(&mut bytes, many)), expected);
+        let mut ended = log;
+        ended.declare_end(&bytes).unwrap();
+        assert_eq!(number(ended.add_many(&mut bytes, many)), 13);
+        assert_eq!(number(ended.add_many(&mut bytes, b"")), 13);
+        let broken = &mut Log { used: 4, ..ended };
+        assert_eq!(number(broken.add_many(&mut bytes, many)), 10);
+        assert_eq!((log, bytes), before);
     }
     assert_eq!(log.add_many(&mut bytes, b""), Ok(0));
-    assert_eq!((log, bytes), (Log::default(), [0xee; 40]));
+    assert_eq!((log, bytes), before);
+    assert_eq!(log.add_many(&mut bytes, b"\0\0\0\x02HI"), Ok(2));
+    assert_eq!((log.count, log.used), (3, 11));
+    assert_eq!(&bytes[5..12], b"\0\0\0\x02HI\xee");
 }
 
 #[test]
