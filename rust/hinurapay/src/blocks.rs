@@ -41,6 +41,7 @@ impl<'a> Iterator for Blocks<'a> {
 }
 
 /// The bytes that an answer names by start and length.
+#[inline]
 pub(crate) fn part(bytes: &[u8], start: u64, length: u64) -> &[u8] {
     &bytes[start as usize..][..length as usize]
 }

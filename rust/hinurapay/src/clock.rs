@@ -55,6 +55,15 @@ impl Sheet {
 }
 
 /// How patient the desk is before it asks again, in milliseconds.
+///
+/// ```
+/// use hinurapay::{Patience, Refusal, Sheet};
+///
+/// let untimed = Sheet::default();
+/// assert_eq!(untimed.wait(&Patience::Never), Ok(None));
+/// assert_eq!(untimed.wait(&Patience::Fixed(250.0)), Ok(Some(250.0)));
+/// assert_eq!(untimed.wait(&Patience::Fixed(f64::NAN)), Err(Refusal::Range));
+/// ```
 #[derive(Clone, Copy, Debug, PartialEq)]
 pub enum Patience {
     /// Never asks twice.
@@ -102,6 +111,13 @@ pub fn line_lost(now: Tick, heard: Tick) -> Result<bool, Refusal> {
 
 /// Whether a Soup heartbeat is due when something was last sent at `sent`, after more than
 /// 1,000 ms; 14 if now is earlier.
+///
+/// ```
+/// use hinurapay::{heartbeat_due, Tick};
+///
+/// assert_eq!(heartbeat_due(Tick(1_000), Tick(0)), Ok(false));
+/// assert_eq!(heartbeat_due(Tick(1_001), Tick(0)), Ok(true));
+/// ```
 pub fn heartbeat_due(now: Tick, sent: Tick) -> Result<bool, Refusal> {
     let due = hp_heartbeat_due(now.0, sent.0);
     taken(due.refusal, due.yes == 1)

@@ -2,9 +2,9 @@
 
 use crate::flat::{
     hp_log, hp_log_add, hp_log_answer, hp_log_declare_end, hp_log_end_packet, hp_log_heartbeat,
-    hp_logged, hp_wrote,
+    hp_logged,
 };
-use crate::refusal::{taken, Refusal};
+use crate::refusal::{taken, written, Refusal};
 
 /// A log over bytes that are lent to it. Every call passes over the log once.
 ///
@@ -36,9 +36,41 @@ impl<'a> Log<'a> {
         Log { bytes, log }
     }
 
+    /// A log that was kept, over the bytes in which its blocks stand; 10 if it doesn't hang together.
+    ///
+    /// ```
+    /// use hinurapay::{Log, Refusal};
+    ///
+    /// let mut bytes = [0; 100];
+    /// let mut log = Log::over(&mut bytes);
+    /// log.add(b"HI")?;
+    /// let mut kept = log.flat();
+    /// assert_eq!(Log::resumed(&mut bytes, kept)?.blocks(), b"\0\x02HI");
+    /// kept.count = 2;
+    /// assert_eq!(Log::resumed(&mut bytes, kept).unwrap_err(), Refusal::Broken);
+    /// # Ok::<(), hinurapay::Refusal>(())
+    /// ```
+    pub fn resumed(bytes: &'a mut [u8], kept: hp_log) -> Result<Log<'a>, Refusal> {
+        // there is no room for a heartbeat, which is found only once the log hangs together
+        match written(hp_log_heartbeat(kept, bytes, &mut [])) {
+            Ok(_) | Err(Refusal::Room) => Ok(Log { bytes, log: kept }),
+            Err(refusal) => Err(refusal),
+        }
+    }
+
+    /// The log's own numbers as the C face has them, to be kept with the bytes.
+    pub fn flat(&self) -> hp_log {
+        self.log
+    }
+
     /// How many messages there are.
     pub fn count(&self) -> u64 {
         self.log.count
+    }
+
+    /// Whether the end was declared.
+    pub fn ended(&self) -> bool {
+        self.log.ended == 1
     }
 
     /// The blocks of its messages.
@@ -47,6 +79,7 @@ impl<'a> Log<'a> {
     }
 
     /// Adds a message; 13, 2 (over 1,463 bytes), 7, 9.
+    #[inline]
     pub fn add(&mut self, message: &[u8]) -> Result<(), Refusal> {
         let logged = hp_log_add(self.log, self.bytes, message);
         self.keep(logged)
@@ -61,11 +94,18 @@ impl<'a> Log<'a> {
     /// Answers a request for `count` messages from `first` on, into at least 1,472 bytes: as many
     /// of them as there are and as one packet holds, or past the log's end a heartbeat or the end.
     /// Says how many bytes the packet has; 6, 9.
+    #[inline]
     pub fn answer(&self, first: u32, count: u16, out: &mut [u8]) -> Result<usize, Refusal> {
         written(hp_log_answer(self.log, self.bytes, first, count, out))
     }
 
     /// Writes a heartbeat, which names the next message to be sent; 9.
+    ///
+    /// ```
+    /// let mut out = [0; 7];
+    /// assert_eq!(hinurapay::Log::over(&mut []).heartbeat(&mut out), Ok(7));
+    /// assert_eq!(&out, b"S\0\0\0\x01\0\0");
+    /// ```
     pub fn heartbeat(&self, out: &mut [u8]) -> Result<usize, Refusal> {
         written(hp_log_heartbeat(self.log, self.bytes, out))
     }
@@ -75,12 +115,9 @@ impl<'a> Log<'a> {
         written(hp_log_end_packet(self.log, self.bytes, out))
     }
 
+    #[inline]
     fn keep(&mut self, logged: hp_logged) -> Result<(), Refusal> {
         self.log = logged.log;
         taken(logged.refusal, ())
     }
-}
-
-fn written(wrote: hp_wrote) -> Result<usize, Refusal> {
-    taken(wrote.refusal, wrote.bytes as usize)
 }

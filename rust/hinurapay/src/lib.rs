@@ -41,6 +41,8 @@ pub mod memx;
 mod record;
 mod refusal;
 pub mod soup;
+#[allow(non_camel_case_types)] // the names are the C face's own
+mod structs;
 pub mod ufo;
 
 pub use blocks::Blocks;
@@ -57,6 +59,7 @@ pub use refusal::Refusal;
 /// in the answer equals the one that was given, and no lent byte has changed.
 pub mod flat {
     pub use crate::ffi::*;
+    pub use crate::structs::*;
 }
 
 /// The README's first use is run as a test.

@@ -3,7 +3,10 @@
 use crate::blocks::part;
 use crate::flat::{hp_memx_read, hp_memx_write, hp_packet};
 use crate::kinds::{Sequence, SessionId};
-use crate::refusal::{taken, Refusal};
+use crate::refusal::{taken, written, Refusal};
+
+/// The longest packet.
+pub const LIMIT: usize = 1472;
 
 /// A packet; blocks are a slice of the caller's bytes.
 #[derive(Clone, Copy, Debug, PartialEq, Eq)]
@@ -48,6 +51,7 @@ pub enum Packet<'a> {
 /// packet[1] = 17;
 /// assert_eq!(read(&packet).unwrap_err().number(), 5);
 /// ```
+#[inline]
 pub fn read(packet: &[u8]) -> Result<Packet<'_>, Refusal> {
     let read = hp_memx_read(packet);
     let fields = taken(read.refusal, read.packet)?;
@@ -71,6 +75,18 @@ pub fn read(packet: &[u8]) -> Result<Packet<'_>, Refusal> {
 }
 
 /// Writes a packet and says how many bytes it has; refused as a reader would refuse it, then 9.
+///
+/// ```
+/// use hinurapay::memx::{read, write, Packet};
+/// use hinurapay::{Sequence, SessionId};
+///
+/// let (session, first) = (SessionId(7), Sequence(3));
+/// let packet = Packet::Sequenced { session, first, count: 1, blocks: b"\0\x02HI" };
+/// let mut out = [0; 24];
+/// assert_eq!(write(&packet, &mut out), Ok(24));
+/// assert_eq!(read(&out), Ok(packet));
+/// assert_eq!(write(&packet, &mut out[..23]).unwrap_err().number(), 9);
+/// ```
 pub fn write(packet: &Packet<'_>, out: &mut [u8]) -> Result<usize, Refusal> {
     let (kind, session, number, count, blocks): (u8, _, _, _, &[u8]) = match *packet {
         Packet::Heartbeat { session, highest } => (0, session, highest, 0, &[]),
@@ -89,6 +105,5 @@ pub fn write(packet: &Packet<'_>, out: &mut [u8]) -> Result<usize, Refusal> {
         count,
         ..hp_packet::default()
     };
-    let wrote = hp_memx_write(fields, blocks, out);
-    taken(wrote.refusal, wrote.bytes as usize)
+    written(hp_memx_write(fields, blocks, out))
 }

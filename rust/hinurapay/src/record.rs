@@ -72,6 +72,26 @@ impl Record {
         Record(hp_open_memx(session.0).record)
     }
 
+    /// A record that was kept, as [`Record::flat`] gave it; 10 if it doesn't hang together.
+    ///
+    /// ```
+    /// use hinurapay::{Record, Refusal, SessionId};
+    ///
+    /// let record = Record::open_memx(SessionId(7));
+    /// let mut kept = record.flat();
+    /// assert_eq!(Record::resumed(kept), Ok(record));
+    /// kept.next = 0;
+    /// assert_eq!(Record::resumed(kept), Err(Refusal::Broken));
+    /// ```
+    pub fn resumed(kept: hp_record) -> Result<Record, Refusal> {
+        taken(hp_standing_of(kept).refusal, Record(kept))
+    }
+
+    /// The record as the C face has it, to be kept.
+    pub fn flat(&self) -> hp_record {
+        self.0
+    }
+
     /// The number of the next message to be delivered.
     pub fn next(&self) -> Sequence {
         Sequence(self.0.next)
@@ -87,8 +107,14 @@ impl Record {
         self.0.ended == 1
     }
 
-    /// Takes a datagram and delivers the blocks that are next into the output; 10, the reader's
-    /// refusals, 16, 11, 12, 9.
+    /// The number last asked from, if any.
+    pub fn asked(&self) -> Option<Sequence> {
+        (self.0.asked != 0).then_some(Sequence(self.0.asked))
+    }
+
+    /// Takes a datagram and delivers the blocks that are next into the output; the reader's refusals,
+    /// 16, 11, 12, 9.
+    #[inline]
     pub fn take<'a>(&mut self, datagram: &[u8], out: &'a mut [u8]) -> Result<Taken<'a>, Refusal> {
         let took = hp_take(self.0, datagram, out);
         taken(took.refusal, ())?;
@@ -99,7 +125,18 @@ impl Record {
         })
     }
 
-    /// Whether the record is complete, and what is missing; 10.
+    /// Whether the record is complete, and what is missing.
+    ///
+    /// ```
+    /// use hinurapay::{Name, Record, Sequence};
+    ///
+    /// let mut record = Record::open_ufo(Name(*b"8841      "))?;
+    /// record.take(b"E\0\0\0\x02", &mut [])?; // the end, after two messages
+    /// let standing = record.standing()?;
+    /// assert_eq!(standing.missing, Some((Sequence(1), Sequence(2))));
+    /// assert!(!standing.complete);
+    /// # Ok::<(), hinurapay::Refusal>(())
+    /// ```
     pub fn standing(&self) -> Result<Standing, Refusal> {
         let standing = hp_standing_of(self.0);
         let missing = (Sequence(standing.first), Sequence(standing.last));
@@ -110,7 +147,8 @@ impl Record {
         taken(standing.refusal, answer)
     }
 
-    /// What to ask now, `elapsed` milliseconds after asking last; 10, then 15.
+    /// What to ask now, `elapsed` milliseconds after asking last; 10 for the sheet, then 15 for the
+    /// patience, or for a time outside 0 to 86,400,000 or not a number.
     pub fn ask(
         &mut self,
         sheet: &Sheet,

@@ -1,5 +1,6 @@
 //! The sixteen ways in which the desk says no.
 
+use crate::flat::hp_wrote;
 use core::error::Error;
 use core::fmt;
 
@@ -12,7 +13,9 @@ macro_rules! refusals {
         ///
         /// let refusal = ufo::read_down(b"").unwrap_err();
         /// assert_eq!(refusal, Refusal::Empty);
+        /// assert_eq!((refusal.number(), refusal.meaning()), (1, "no bytes at all"));
         /// assert_eq!(refusal.to_string(), "refused (1): no bytes at all");
+        /// assert_eq!(Refusal::numbered(16), Some(Refusal::NotForRecord));
         /// ```
         #[derive(Clone, Copy, Debug, PartialEq, Eq, Hash)]
         #[repr(u8)]
@@ -75,9 +78,16 @@ impl fmt::Display for Refusal {
 impl Error for Refusal {}
 
 /// The answer of the C face, where it is no refusal.
+#[inline]
 pub(crate) fn taken<T>(refusal: u64, answer: T) -> Result<T, Refusal> {
     match refusal {
         0 => Ok(answer),
         number => Err(Refusal::numbered(number).expect("the desk refuses with 1 to 16")),
     }
+}
+
+/// How many bytes a writer of the C face wrote.
+#[inline]
+pub(crate) fn written(wrote: hp_wrote) -> Result<usize, Refusal> {
+    taken(wrote.refusal, wrote.bytes as usize)
 }

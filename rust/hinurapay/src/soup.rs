@@ -3,7 +3,10 @@
 use crate::blocks::part;
 use crate::flat::{hp_packet, hp_soup_read, hp_soup_write};
 use crate::kinds::{Name, Password, Reason, Sequence, User};
-use crate::refusal::{taken, Refusal};
+use crate::refusal::{taken, written, Refusal};
+
+/// The longest packet.
+pub const LIMIT: usize = 4098;
 
 /// A packet; payloads are slices of the caller's bytes.
 #[derive(Clone, Copy, Debug, PartialEq, Eq)]
@@ -52,6 +55,7 @@ pub enum Packet<'a> {
 /// assert_eq!(read(b"Shello\n"), Ok(Packet::Sequenced(b"hello")));
 /// assert_eq!(read(b"Shello").unwrap_err().number(), 4);
 /// ```
+#[inline]
 pub fn read(packet: &[u8]) -> Result<Packet<'_>, Refusal> {
     let read = hp_soup_read(packet);
     let fields = taken(read.refusal, read.packet)?;
@@ -118,6 +122,5 @@ pub fn write(packet: &Packet<'_>, out: &mut [u8]) -> Result<usize, Refusal> {
         }
     };
     fields.r#type = kind;
-    let wrote = hp_soup_write(fields, payload, out);
-    taken(wrote.refusal, wrote.bytes as usize)
+    written(hp_soup_write(fields, payload, out))
 }

@@ -6,7 +6,7 @@ use crate::flat::{
     hp_ufo_write_message,
 };
 use crate::kinds::{Name, Password, Reason, Sequence, User};
-use crate::refusal::{taken, Refusal};
+use crate::refusal::{taken, written, Refusal};
 
 /// The longest packet.
 pub const LIMIT: usize = 1472;
@@ -77,6 +77,7 @@ pub enum Up<'a> {
 /// assert_eq!((first, count), (Sequence(6), 2));
 /// assert_eq!(Blocks::over(blocks).next(), Some(Ok(&b"HI"[..])));
 /// ```
+#[inline]
 pub fn read_down(packet: &[u8]) -> Result<Down<'_>, Refusal> {
     let read = hp_ufo_read_down(packet);
     let fields = taken(read.refusal, read.packet)?;
@@ -130,8 +131,7 @@ pub fn write_down(packet: &Down<'_>, out: &mut [u8]) -> Result<usize, Refusal> {
     };
     fields.r#type = kind;
     fields.number = number;
-    let wrote = hp_ufo_write_down(fields, blocks, out);
-    taken(wrote.refusal, wrote.bytes as usize)
+    written(hp_ufo_write_down(fields, blocks, out))
 }
 
 /// The messages of one packet from the client, all of which are lawful.
@@ -192,6 +192,18 @@ pub fn read_up(packet: &[u8]) -> Result<Messages<'_>, Refusal> {
 
 /// Writes one message from the client as a block; refused as the packet of that one block would be,
 /// then 9. A packet is one or more such blocks.
+///
+/// ```
+/// use hinurapay::ufo::{write_message, Up};
+/// use hinurapay::Sequence;
+///
+/// let mut packet = [0; 12];
+/// let request = Up::Request { first: Sequence(3), count: 2 };
+/// let length = write_message(&request, &mut packet)?;
+/// write_message(&Up::Heartbeat, &mut packet[length..])?;
+/// assert_eq!(&packet, b"\0\x07T\0\0\0\x03\0\x02\0\x01R");
+/// # Ok::<(), hinurapay::Refusal>(())
+/// ```
 pub fn write_message(message: &Up<'_>, out: &mut [u8]) -> Result<usize, Refusal> {
     let mut fields = hp_packet::default();
     let (kind, data): (u8, &[u8]) = match *message {
@@ -215,6 +227,5 @@ pub fn write_message(message: &Up<'_>, out: &mut [u8]) -> Result<usize, Refusal>
         Up::Logoff => (b'O', &[]),
     };
     fields.r#type = kind;
-    let wrote = hp_ufo_write_message(fields, data, out);
-    taken(wrote.refusal, wrote.bytes as usize)
+    written(hp_ufo_write_message(fields, data, out))
 }

@@ -2,6 +2,18 @@
 
 use crate::refusal::Refusal;
 
+/// A packet of no bytes is 1, one over its limit is 2.
+#[inline]
+pub fn measured(length: usize, limit: usize) -> Result<(), Refusal> {
+    if length == 0 {
+        Err(Refusal::Empty)
+    } else if length > limit {
+        Err(Refusal::Oversize)
+    } else {
+        Ok(())
+    }
+}
+
 /// Takes the next field off the front; a packet too short for it is 4.
 #[inline]
 pub fn take<const WIDTH: usize>(packet: &mut &[u8]) -> Result<[u8; WIDTH], Refusal> {

@@ -30,6 +30,7 @@ impl Log {
     }
 
     /// Adds a message; 10, 13, 2, 7, 9.
+    #[inline]
     pub fn add(&mut self, bytes: &mut [u8], message: &[u8]) -> Result<(), Refusal> {
         self.growing(bytes)?;
         let grown = self.grown(1, message.len(), 2 + message.len(), bytes.len())?;
@@ -64,6 +65,7 @@ impl Log {
     /// Answers a request for `count` messages from `first` on: as many of them as there are and
     /// as one packet holds, or past the log's end a heartbeat or the end. Says how many bytes the
     /// packet has; 10, 6, 9.
+    #[inline]
     pub fn answer(
         &self,
         bytes: &[u8],
@@ -132,6 +134,7 @@ impl Log {
     }
 
     /// 10, then 13 if the end was declared.
+    #[inline]
     fn growing(&self, bytes: &[u8]) -> Result<(), Refusal> {
         self.check(bytes)?;
         if self.ended {
@@ -142,6 +145,7 @@ impl Log {
 
     /// The log with so many more messages, the longest of them of that length and their blocks of
     /// that many bytes, in lent bytes with that room; 2, 7, 9.
+    #[inline]
     fn grown(self, added: u64, longest: usize, length: usize, room: usize) -> Result<Log, Refusal> {
         if longest > LONGEST_MESSAGE {
             return Err(Refusal::Oversize);
@@ -163,6 +167,7 @@ impl Log {
 
     /// The blocks after the first `skipped` ones, none if there are not so many; 10 if the log as
     /// a whole doesn't hang together.
+    #[inline]
     fn blocks_after<'a>(&self, bytes: &'a [u8], skipped: u64) -> Result<&'a [u8], Refusal> {
         if self.count > ufo::HIGHEST {
             return Err(Refusal::Broken);
@@ -179,6 +184,7 @@ impl Log {
 
 /// What follows the first `count` blocks of a log; 10 if there are not so many, or one is too
 /// long to be sent.
+#[inline]
 fn pass(log: &[u8], count: u64) -> Result<&[u8], Refusal> {
     let mut rest = log;
     for _ in 0..count {

@@ -1,7 +1,7 @@
 //! MEMX-UDP 1.1: heartbeat, shutdown and sequenced messages from a broadcaster.
 
 use crate::blocks;
-use crate::fields::{end, lay, take};
+use crate::fields::{end, lay, measured, take};
 use crate::kinds::{Sequence, SessionId};
 use crate::refusal::Refusal;
 
@@ -52,6 +52,7 @@ pub enum Packet<'a> {
 
 impl Packet<'_> {
     /// What a reader says of the numbers once lengths and header are right: 6, 7.
+    #[inline]
     fn check(&self) -> Result<(), Refusal> {
         match *self {
             Packet::Heartbeat { highest, .. } | Packet::Shutdown { highest, .. } => {
@@ -72,18 +73,10 @@ impl Packet<'_> {
     }
 }
 
-/// A packet of no bytes is 1, one over the limit is 2.
-fn measured(length: usize) -> Result<(), Refusal> {
-    match length {
-        0 => Err(Refusal::Empty),
-        1..=LIMIT => Ok(()),
-        _ => Err(Refusal::Oversize),
-    }
-}
-
 /// Reads a packet; 1, 2, 3, 4, 5, 6, 7.
+#[inline]
 pub fn read(datagram: &[u8]) -> Result<Packet<'_>, Refusal> {
-    measured(datagram.len())?;
+    measured(datagram.len(), LIMIT)?;
     let mut rest = datagram;
     let [kind] = take(&mut rest)?;
     if kind > 2 {
@@ -121,7 +114,7 @@ pub fn read(datagram: &[u8]) -> Result<Packet<'_>, Refusal> {
 /// refuse the packet; then 9.
 pub fn write(packet: &Packet<'_>, slip: &mut [u8]) -> Result<usize, Refusal> {
     if let Packet::Sequenced { count, blocks, .. } = *packet {
-        measured(DATA_HEADER + blocks.len())?;
+        measured(DATA_HEADER + blocks.len(), LIMIT)?;
         blocks::exactly(blocks, count)?;
     }
     packet.check()?;

@@ -1,7 +1,7 @@
 //! SoupTCP 3.00: packets of a type, a payload and a linefeed, in both directions.
 
 use crate::decimal;
-use crate::fields::{lay, take};
+use crate::fields::{lay, measured, take};
 use crate::kinds::{Name, Password, Reason, Sequence, User};
 use crate::refusal::Refusal;
 use crate::text;
@@ -66,11 +66,11 @@ pub enum Packet<'a> {
 }
 
 /// Reads a packet; 1, 2, 3, 4, 8, 5, 6, 7.
+#[inline]
 pub fn read(packet: &[u8]) -> Result<Packet<'_>, Refusal> {
-    let (&kind, rest) = packet.split_first().ok_or(Refusal::Empty)?;
-    if packet.len() > LIMIT {
-        return Err(Refusal::Oversize);
-    }
+    measured(packet.len(), LIMIT)?;
+    let mut rest = packet;
+    let [kind] = take(&mut rest)?;
     let fixed = fixed_payload(kind)?;
     match rest.split_last() {
         Some((&LINEFEED, payload)) if fixed.is_none_or(|length| length == payload.len()) => {
@@ -81,6 +81,7 @@ pub fn read(packet: &[u8]) -> Result<Packet<'_>, Refusal> {
 }
 
 /// How many bytes the payload of a type has, if that is fixed; a type that there is not is 3.
+#[inline]
 fn fixed_payload(kind: u8) -> Result<Option<usize>, Refusal> {
     match kind {
         b'+' | b'S' | b'U' => Ok(None),
@@ -93,6 +94,7 @@ fn fixed_payload(kind: u8) -> Result<Option<usize>, Refusal> {
 }
 
 /// Reads what stands between the type and the last linefeed: 8, 5, 6, 7.
+#[inline]
 fn read_payload(kind: u8, payload: &[u8]) -> Result<Packet<'_>, Refusal> {
     if payload.contains(&LINEFEED) {
         return Err(Refusal::Linefeed);

@@ -14,16 +14,6 @@ pub const LIMIT: usize = 1472;
 /// The highest number that a message, or a session's total, may have.
 pub const HIGHEST: u64 = u32::MAX as u64 - 1;
 
-/// A packet of no bytes is 1, one over the limit is 2.
-#[inline]
-fn measured(length: usize) -> Result<(), Refusal> {
-    match length {
-        0 => Err(Refusal::Empty),
-        1..=LIMIT => Ok(()),
-        _ => Err(Refusal::Oversize),
-    }
-}
-
 /// The four bytes of a number; one that they cannot hold is 7.
 #[inline]
 fn four_bytes(number: u64) -> Result<[u8; 4], Refusal> {

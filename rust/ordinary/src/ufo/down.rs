@@ -1,8 +1,8 @@
 //! UFO from the server: accept, reject, sequenced data and the end of the session.
 
-use super::{four_bytes, measured, number, HIGHEST};
+use super::{four_bytes, number, HIGHEST, LIMIT};
 use crate::blocks;
-use crate::fields::{end, lay, take};
+use crate::fields::{end, lay, measured, take};
 use crate::kinds::{Name, Reason, Sequence};
 use crate::refusal::Refusal;
 use crate::text;
@@ -70,7 +70,7 @@ impl Down<'_> {
 /// Reads a packet from the server; 1, 2, 3, 4, 5, 6, 7.
 #[inline]
 pub fn read_down(datagram: &[u8]) -> Result<Down<'_>, Refusal> {
-    measured(datagram.len())?;
+    measured(datagram.len(), LIMIT)?;
     let mut rest = datagram;
     let [kind] = take(&mut rest)?;
     let packet = match kind {
@@ -112,7 +112,7 @@ pub fn read_down(datagram: &[u8]) -> Result<Down<'_>, Refusal> {
 /// a reader would refuse the packet, 7 for a number that its field cannot hold; then 9.
 pub fn write_down(packet: &Down<'_>, slip: &mut [u8]) -> Result<usize, Refusal> {
     if let Down::Sequenced { count, blocks, .. } = *packet {
-        measured(DATA_HEADER + blocks.len())?;
+        measured(DATA_HEADER + blocks.len(), LIMIT)?;
         blocks::exactly(blocks, count)?;
     }
     packet.check()?;

@@ -1,8 +1,8 @@
 //! UFO from the client: login, request, unsequenced data, heartbeat and logoff, each in a block.
 
-use super::{four_bytes, measured, number};
+use super::{four_bytes, number, LIMIT};
 use crate::blocks::{self, Blocks};
-use crate::fields::{end, lay, take};
+use crate::fields::{end, lay, measured, take};
 use crate::kinds::{Name, Password, Sequence, User};
 use crate::refusal::Refusal;
 use crate::text;
@@ -75,7 +75,7 @@ impl Up<'_> {
 /// lengths (4) come first over the whole packet; then the first message that is refused gives the
 /// number.
 pub fn read_up(datagram: &[u8]) -> Result<usize, Refusal> {
-    measured(datagram.len())?;
+    measured(datagram.len(), LIMIT)?;
     let messages = blocks::upstream(datagram)?;
     for message in Blocks::over(datagram) {
         read(message?)?;
@@ -87,7 +87,7 @@ pub fn read_up(datagram: &[u8]) -> Result<usize, Refusal> {
 /// begins. 1 and 2 are about the whole packet, everything else about that block only; a place at
 /// or past the end is 4.
 pub fn read_message(datagram: &[u8], place: usize) -> Result<(Up<'_>, usize), Refusal> {
-    measured(datagram.len())?;
+    measured(datagram.len(), LIMIT)?;
     let block = blocks::next_block(datagram, place)?;
     let message = read(&datagram[block.start..block.next])?;
     Ok((message, block.next))
@@ -134,7 +134,7 @@ fn read(message: &[u8]) -> Result<Up<'_>, Refusal> {
 /// has. It is refused as the packet of that one block would be, 7 for a number that its field
 /// cannot hold; then 9.
 pub fn write_message(message: &Up<'_>, slip: &mut [u8]) -> Result<usize, Refusal> {
-    measured(2 + message.length())?;
+    measured(2 + message.length(), LIMIT)?;
     message.check()?;
     let length = (message.length() as u16).to_be_bytes();
     match *message {
