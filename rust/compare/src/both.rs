@@ -1,5 +1,6 @@
 //! One case given to both desks.
 
+use crate::smallest::smallest;
 use crate::twin::Twin;
 use hinurapay::flat::*;
 use std::fmt::Debug;
@@ -29,38 +30,109 @@ answers! {
     hp_logged
 }
 
+/// What both desks answered, and the output as both left it.
+pub struct Agreed<A> {
+    /// The answer.
+    pub answer: A,
+    /// All of the output.
+    pub out: Vec<u8>,
+}
+
+impl<A: Answer> Agreed<A> {
+    /// 0 or why both refused.
+    pub fn refusal(self) -> u64 {
+        self.answer.refusal()
+    }
+}
+
+/// How the two desks differ.
+pub struct Difference {
+    /// How many bytes the case has.
+    pub size: usize,
+    /// The case, and what each made of it.
+    pub how: String,
+}
+
 /// So many bytes of output that was not written to yet.
 pub fn blank(room: usize) -> Vec<u8> {
     (0..room).map(|place| (place * 7 + 13) as u8).collect()
 }
 
-/// Lends the same bytes, and output that starts equal, to both desks; the refusal on which they
-/// agree, or how they differ. All of the output is compared, and the lent bytes must be as they
-/// were. `other` are the inputs that are not bytes.
-pub fn both<A: Answer, B: Twin<Other = A>>(
+/// Calls one function on both desks: `both!(hp_name(arguments); lent name = bytes; room name = output)`,
+/// where the arguments speak of the bytes and the output by those names, and may do without either.
+macro_rules! both {
+    ($function:ident($($argument:expr),*)) => {
+        both!($function($($argument),*); lent _lent = &[]; room _room = Vec::new())
+    };
+    ($function:ident($($argument:expr),*); lent $lent:ident = $bytes:expr) => {
+        both!($function($($argument),*); lent $lent = $bytes; room _room = Vec::new())
+    };
+    ($function:ident($($argument:expr),*); lent $lent:ident = $bytes:expr; room $room:ident = $out:expr) => {
+        $crate::both::give(
+            $bytes,
+            $out,
+            |$lent, $room| hinurapay::flat::$function($($argument),*),
+            |$lent, $room| ordinary::flat::$function($($crate::twin::Twin::twin($argument)),*),
+            |$lent, $room| format!("{:?}", ($($argument,)*)),
+        )
+    };
+}
+pub(crate) use both;
+
+/// Lends the same bytes, and output that starts equal, to both desks; what they agree on, or how
+/// they differ, on the smallest of such cases. All of the output is compared, and the lent bytes
+/// must be as they were. `inputs` tells all of the inputs, as far as they are not lent.
+pub fn give<A: Answer, B: Twin<Other = A>>(
     lent: &[u8],
     out: Vec<u8>,
-    other: &dyn Debug,
-    proved: impl FnOnce(&[u8], &mut [u8]) -> A,
-    plain: impl FnOnce(&[u8], &mut [u8]) -> B,
-) -> Result<u64, String> {
-    let room = out.len();
+    proved: impl Fn(&[u8], &mut [u8]) -> A,
+    plain: impl Fn(&[u8], &mut [u8]) -> B,
+    inputs: impl Fn(&[u8], &mut [u8]) -> String,
+) -> Result<Agreed<A>, Difference> {
+    let once = |lent: &[u8], out: &[u8]| held(lent, out, &proved, &plain);
+    let how = match once(lent, &out) {
+        Ok(agreed) => return Ok(agreed),
+        Err(how) => how,
+    };
+    let differ = |lent: &[u8], out: &[u8]| once(lent, out).is_err();
+    let (lent, out) = smallest(lent, &out, differ);
+    let how = once(&lent, &out).err().unwrap_or(how);
+    Err(Difference {
+        size: lent.len() + out.len(),
+        how: format!(
+            "lent bytes ({}): {}\noutput before ({} bytes): {}\n\
+             inputs, without what is lent: {}\n{how}",
+            lent.len(),
+            hex(&lent),
+            out.len(),
+            hex(&out),
+            inputs(&[], &mut []),
+        ),
+    })
+}
+
+/// Gives a case to both desks once.
+fn held<A: Answer, B: Twin<Other = A>>(
+    lent: &[u8],
+    out: &[u8],
+    proved: impl Fn(&[u8], &mut [u8]) -> A,
+    plain: impl Fn(&[u8], &mut [u8]) -> B,
+) -> Result<Agreed<A>, String> {
     let before = [lent, &GUARD].concat();
     let copy = before.clone();
-    let mut proved_out = [&out[..], &GUARD].concat();
+    let mut proved_out = [out, &GUARD].concat();
     let mut plain_out = proved_out.clone();
-    let answer = proved(&copy[..lent.len()], &mut proved_out[..room]);
-    let expected = plain(lent, &mut plain_out[..room]).twin();
+    let answer = proved(&copy[..lent.len()], &mut proved_out[..out.len()]);
+    let expected = plain(lent, &mut plain_out[..out.len()]).twin();
     let untouched = *black_box(&copy) == before;
     if answer == expected && proved_out == plain_out && untouched {
-        return Ok(answer.refusal());
+        plain_out.truncate(out.len());
+        let out = plain_out;
+        return Ok(Agreed { answer, out });
     }
     Err(format!(
-        "lent bytes: {}\noutput before ({room} bytes): {}\nother inputs: {other:x?}\n\
-         proved:   {answer:?}\nordinary: {expected:?}\n\
+        "proved:   {answer:?}\nordinary: {expected:?}\n\
          output, proved:   {}\noutput, ordinary: {}\nlent bytes untouched: {untouched}",
-        hex(lent),
-        hex(&out),
         hex(&proved_out),
         hex(&plain_out),
     ))

@@ -1,11 +1,10 @@
 //! The cases of every function of the C face.
 
-use crate::both::{blank, both};
+use crate::both::{blank, both, Agreed, Difference};
 use crate::dice::Dice;
 use crate::make;
 use crate::twin::Twin;
 use crate::Case;
-use hinurapay::flat as proved;
 use ordinary::flat as plain;
 
 /// The longest UFO and MEMX-UDP packet.
@@ -54,44 +53,30 @@ fn room(needed: u64, dice: &mut Dice) -> Vec<u8> {
     })
 }
 
-fn soup_read(dice: &mut Dice) -> Result<u64, String> {
+fn soup_read(dice: &mut Dice) -> Result<u64, Difference> {
     let mut packet = make::soup(dice);
     make::damage(&mut packet, SOUP, dice);
-    reading(&packet, proved::hp_soup_read, plain::hp_soup_read)
+    both!(hp_soup_read(bytes); lent bytes = &packet).map(Agreed::refusal)
 }
 
-fn ufo_read_down(dice: &mut Dice) -> Result<u64, String> {
+fn ufo_read_down(dice: &mut Dice) -> Result<u64, Difference> {
     let number = make::number(dice);
     let mut packet = make::ufo_down(number, dice);
     make::damage(&mut packet, DATAGRAM, dice);
-    reading(&packet, proved::hp_ufo_read_down, plain::hp_ufo_read_down)
+    both!(hp_ufo_read_down(bytes); lent bytes = &packet).map(Agreed::refusal)
 }
 
-fn ufo_read_up(dice: &mut Dice) -> Result<u64, String> {
+fn ufo_read_up(dice: &mut Dice) -> Result<u64, Difference> {
     let (mut packet, _) = make::ufo_up(dice);
     make::damage(&mut packet, DATAGRAM, dice);
-    reading(&packet, proved::hp_ufo_read_up, plain::hp_ufo_read_up)
+    both!(hp_ufo_read_up(bytes); lent bytes = &packet).map(Agreed::refusal)
 }
 
-fn memx_read(dice: &mut Dice) -> Result<u64, String> {
+fn memx_read(dice: &mut Dice) -> Result<u64, Difference> {
     let (session, number) = (make::number(dice), make::number(dice));
     let mut packet = make::memx(session, number, dice);
     make::damage(&mut packet, DATAGRAM, dice);
-    reading(&packet, proved::hp_memx_read, plain::hp_memx_read)
-}
-
-fn reading(
-    packet: &[u8],
-    proved: fn(&[u8]) -> proved::hp_read,
-    plain: fn(&[u8]) -> plain::hp_read,
-) -> Result<u64, String> {
-    both(
-        packet,
-        Vec::new(),
-        &(),
-        |packet, _| proved(packet),
-        |packet, _| plain(packet),
-    )
+    both!(hp_memx_read(bytes); lent bytes = &packet).map(Agreed::refusal)
 }
 
 /// A place in some bytes: mostly one of those given.
@@ -105,20 +90,14 @@ fn place(places: &[u64], length: usize, dice: &mut Dice) -> u64 {
     }
 }
 
-fn ufo_read_message(dice: &mut Dice) -> Result<u64, String> {
+fn ufo_read_message(dice: &mut Dice) -> Result<u64, Difference> {
     let (mut packet, places) = make::ufo_up(dice);
     make::damage(&mut packet, DATAGRAM, dice);
     let place = place(&places, packet.len(), dice);
-    both(
-        &packet,
-        Vec::new(),
-        &place,
-        |packet, _| proved::hp_ufo_read_message(packet, place),
-        |packet, _| plain::hp_ufo_read_message(packet, place),
-    )
+    both!(hp_ufo_read_message(bytes, place); lent bytes = &packet).map(Agreed::refusal)
 }
 
-fn next_block(dice: &mut Dice) -> Result<u64, String> {
+fn next_block(dice: &mut Dice) -> Result<u64, Difference> {
     let (mut bytes, mut places) = (Vec::new(), Vec::new());
     for _ in 0..dice.below(5) {
         places.push(bytes.len() as u64);
@@ -126,122 +105,58 @@ fn next_block(dice: &mut Dice) -> Result<u64, String> {
     }
     make::damage(&mut bytes, DATAGRAM, dice);
     let place = place(&places, bytes.len(), dice);
-    both(
-        &bytes,
-        Vec::new(),
-        &place,
-        |bytes, _| proved::hp_next_block(bytes, place),
-        |bytes, _| plain::hp_next_block(bytes, place),
-    )
+    both!(hp_next_block(lent, place); lent lent = &bytes).map(Agreed::refusal)
 }
 
-fn soup_write(dice: &mut Dice) -> Result<u64, String> {
-    let mut fields = make::fields(b"+SUHZROJAL", true, dice);
-    let mut body = make::body(&mut fields, SOUP, dice);
+/// Writes fields and a body by the function named.
+macro_rules! writing {
+    ($function:ident, $fields:expr, $body:expr, $dice:expr) => {{
+        let fields = $fields;
+        let needed = plain::$function(fields.twin(), &$body, &mut [0; SOUP]).bytes;
+        both!($function(fields, body, out); lent body = &$body; room out = room(needed, $dice))
+            .map(Agreed::refusal)
+    }};
+}
+
+fn soup_write(dice: &mut Dice) -> Result<u64, Difference> {
+    let (fields, mut body) = make::to_write(b"+SUHZROJAL", b"+SU", true, SOUP, dice);
     if !dice.one_in(4) {
-        for byte in &mut body {
-            if *byte == b'\n' {
-                *byte = b'n';
-            }
-        }
+        make::without_linefeeds(&mut body);
     }
-    if !b"+SU".contains(&fields.r#type) && !dice.one_in(4) {
-        body.clear();
-    }
-    writing(
-        fields,
-        &body,
-        dice,
-        proved::hp_soup_write,
-        plain::hp_soup_write,
-    )
+    writing!(hp_soup_write, fields, body, dice)
 }
 
-fn ufo_write_down(dice: &mut Dice) -> Result<u64, String> {
-    let mut fields = make::fields(b"ASSSJE", false, dice);
-    let mut body = make::body(&mut fields, DATAGRAM, dice);
-    if fields.r#type != b'S' && !dice.one_in(4) {
-        body.clear();
-    }
-    writing(
-        fields,
-        &body,
-        dice,
-        proved::hp_ufo_write_down,
-        plain::hp_ufo_write_down,
-    )
+fn ufo_write_down(dice: &mut Dice) -> Result<u64, Difference> {
+    let (fields, body) = make::to_write(b"ASSSJE", b"S", false, DATAGRAM, dice);
+    writing!(hp_ufo_write_down, fields, body, dice)
 }
 
-fn ufo_write_message(dice: &mut Dice) -> Result<u64, String> {
-    let mut fields = make::fields(b"LTTURO", false, dice);
-    let mut body = make::body(&mut fields, DATAGRAM, dice);
-    if fields.r#type != b'U' && !dice.one_in(4) {
-        body.clear();
-    }
-    writing(
-        fields,
-        &body,
-        dice,
-        proved::hp_ufo_write_message,
-        plain::hp_ufo_write_message,
-    )
+fn ufo_write_message(dice: &mut Dice) -> Result<u64, Difference> {
+    let (fields, body) = make::to_write(b"LTTURO", b"U", false, DATAGRAM, dice);
+    writing!(hp_ufo_write_message, fields, body, dice)
 }
 
-fn memx_write(dice: &mut Dice) -> Result<u64, String> {
-    let mut fields = make::fields(&[0, 1, 2, 2], false, dice);
-    let mut body = make::body(&mut fields, DATAGRAM, dice);
-    if fields.r#type != 2 && !dice.one_in(4) {
-        body.clear();
-    }
-    writing(
-        fields,
-        &body,
-        dice,
-        proved::hp_memx_write,
-        plain::hp_memx_write,
-    )
+fn memx_write(dice: &mut Dice) -> Result<u64, Difference> {
+    let (fields, body) = make::to_write(&[0, 1, 2, 2], &[2], false, DATAGRAM, dice);
+    writing!(hp_memx_write, fields, body, dice)
 }
 
-fn writing(
-    fields: proved::hp_packet,
-    body: &[u8],
-    dice: &mut Dice,
-    proved: fn(proved::hp_packet, &[u8], &mut [u8]) -> proved::hp_wrote,
-    plain: fn(plain::hp_packet, &[u8], &mut [u8]) -> plain::hp_wrote,
-) -> Result<u64, String> {
-    let needed = plain(fields.twin(), body, &mut [0; SOUP]).bytes;
-    both(
-        body,
-        room(needed, dice),
-        &fields,
-        |body, out| proved(fields, body, out),
-        |body, out| plain(fields.twin(), body, out),
-    )
+/// A name where it is lent; while a smaller case is looked for there may be less than one.
+fn name(lent: &[u8]) -> &[u8; 10] {
+    lent.first_chunk().unwrap_or(&[0; 10])
 }
 
-fn open_ufo(dice: &mut Dice) -> Result<u64, String> {
-    let name = make::text::<10>(false, dice);
-    both(
-        &name,
-        Vec::new(),
-        &(),
-        |lent, _| proved::hp_open_ufo(lent.first_chunk().expect("ten bytes")),
-        |_, _| plain::hp_open_ufo(&name),
-    )
+fn open_ufo(dice: &mut Dice) -> Result<u64, Difference> {
+    let text = make::text::<10>(false, dice);
+    both!(hp_open_ufo(name(bytes)); lent bytes = &text).map(Agreed::refusal)
 }
 
-fn open_memx(dice: &mut Dice) -> Result<u64, String> {
+fn open_memx(dice: &mut Dice) -> Result<u64, Difference> {
     let session = make::number(dice);
-    both(
-        &[],
-        Vec::new(),
-        &session,
-        |_, _| proved::hp_open_memx(session),
-        |_, _| plain::hp_open_memx(session),
-    )
+    both!(hp_open_memx(session)).map(Agreed::refusal)
 }
 
-fn take(dice: &mut Dice) -> Result<u64, String> {
+fn take(dice: &mut Dice) -> Result<u64, Difference> {
     let record = make::record(dice);
     let number = match dice.below(8) {
         0 => make::number(dice),
@@ -262,56 +177,27 @@ fn take(dice: &mut Dice) -> Result<u64, String> {
         make::damage(&mut datagram, DATAGRAM, dice);
     }
     let needed = plain::hp_take(record.twin(), &datagram, &mut [0; DATAGRAM]).bytes;
-    both(
-        &datagram,
-        room(needed, dice),
-        &record,
-        |datagram, out| proved::hp_take(record, datagram, out),
-        |datagram, out| plain::hp_take(record.twin(), datagram, out),
-    )
+    both!(hp_take(record, bytes, out); lent bytes = &datagram; room out = room(needed, dice))
+        .map(Agreed::refusal)
 }
 
-fn standing_of(dice: &mut Dice) -> Result<u64, String> {
+fn standing_of(dice: &mut Dice) -> Result<u64, Difference> {
     let record = make::record(dice);
-    both(
-        &[],
-        Vec::new(),
-        &record,
-        |_, _| proved::hp_standing_of(record),
-        |_, _| plain::hp_standing_of(record.twin()),
-    )
+    both!(hp_standing_of(record)).map(Agreed::refusal)
 }
 
-fn time(dice: &mut Dice) -> Result<u64, String> {
+fn time(dice: &mut Dice) -> Result<u64, Difference> {
     let sheet = make::sheet(dice);
     let sample = make::time(60_000.0, dice);
-    both(
-        &[],
-        Vec::new(),
-        &(
-            sheet,
-            sheet.mean.to_bits(),
-            sheet.spread.to_bits(),
-            sample.to_bits(),
-        ),
-        |_, _| proved::hp_time(sheet, sample),
-        |_, _| plain::hp_time(sheet.twin(), sample),
-    )
+    both!(hp_time(sheet, sample)).map(Agreed::refusal)
 }
 
-fn wait_of(dice: &mut Dice) -> Result<u64, String> {
+fn wait_of(dice: &mut Dice) -> Result<u64, Difference> {
     let (sheet, patience) = (make::sheet(dice), make::patience(dice));
-    let bits = [sheet.mean, sheet.spread, patience.first, patience.second].map(f64::to_bits);
-    both(
-        &[],
-        Vec::new(),
-        &(sheet, patience, bits),
-        |_, _| proved::hp_wait_of(sheet, patience),
-        |_, _| plain::hp_wait_of(sheet.twin(), patience.twin()),
-    )
+    both!(hp_wait_of(sheet, patience)).map(Agreed::refusal)
 }
 
-fn ask(dice: &mut Dice) -> Result<u64, String> {
+fn ask(dice: &mut Dice) -> Result<u64, Difference> {
     let record = make::record(dice);
     let (sheet, patience) = (make::sheet(dice), make::patience(dice));
     let elapsed = match dice.below(4) {
@@ -320,59 +206,32 @@ fn ask(dice: &mut Dice) -> Result<u64, String> {
         2 => sheet.mean + 4.0 * sheet.spread,
         _ => make::time(3000.0, dice),
     };
-    let bits = [
-        sheet.mean,
-        sheet.spread,
-        patience.first,
-        patience.second,
-        elapsed,
-    ]
-    .map(f64::to_bits);
-    both(
-        &[],
-        Vec::new(),
-        &(record, sheet, patience, elapsed, bits),
-        |_, _| proved::hp_ask(record, sheet, patience, elapsed),
-        |_, _| plain::hp_ask(record.twin(), sheet.twin(), patience.twin(), elapsed),
-    )
+    both!(hp_ask(record, sheet, patience, elapsed)).map(Agreed::refusal)
 }
 
-fn line_lost(dice: &mut Dice) -> Result<u64, String> {
-    ticks(10_000, dice, proved::hp_line_lost, plain::hp_line_lost)
-}
-
-fn heartbeat_due(dice: &mut Dice) -> Result<u64, String> {
-    ticks(
-        1000,
-        dice,
-        proved::hp_heartbeat_due,
-        plain::hp_heartbeat_due,
-    )
-}
-
-fn ticks(
-    after: u64,
-    dice: &mut Dice,
-    proved: fn(u64, u64) -> proved::hp_yes,
-    plain: fn(u64, u64) -> plain::hp_yes,
-) -> Result<u64, String> {
+/// A clock reading and an earlier one, mostly about so far apart.
+fn ticks(apart: u64, dice: &mut Dice) -> (u64, u64) {
     let then = make::number(dice);
     let now = match dice.below(4) {
         0 => make::number(dice),
         1 => make::near(then, dice),
         2 => dice.roll(),
-        _ => make::near(then.wrapping_add(after), dice),
+        _ => make::near(then.wrapping_add(apart), dice),
     };
-    both(
-        &[],
-        Vec::new(),
-        &(now, then),
-        |_, _| proved(now, then),
-        |_, _| plain(now, then),
-    )
+    (now, then)
 }
 
-fn log_add(dice: &mut Dice) -> Result<u64, String> {
+fn line_lost(dice: &mut Dice) -> Result<u64, Difference> {
+    let (now, heard) = ticks(10_000, dice);
+    both!(hp_line_lost(now, heard)).map(Agreed::refusal)
+}
+
+fn heartbeat_due(dice: &mut Dice) -> Result<u64, Difference> {
+    let (now, sent) = ticks(1000, dice);
+    both!(hp_heartbeat_due(now, sent)).map(Agreed::refusal)
+}
+
+fn log_add(dice: &mut Dice) -> Result<u64, Difference> {
     let (log, mut bytes) = make::log(dice);
     let length = match dice.below(40) {
         0 => dice.pick(&[1462, 1463, 1464, 2000, 65_535, 65_536, 65_540]),
@@ -382,27 +241,15 @@ fn log_add(dice: &mut Dice) -> Result<u64, String> {
     if dice.one_in(2) {
         bytes.resize(bytes.len() + length + dice.below(4), 0x3c);
     }
-    both(
-        &message,
-        bytes,
-        &log,
-        |message, bytes| proved::hp_log_add(log, bytes, message),
-        |message, bytes| plain::hp_log_add(log.twin(), bytes, message),
-    )
+    both!(hp_log_add(log, tape, lent); lent lent = &message; room tape = bytes).map(Agreed::refusal)
 }
 
-fn log_declare_end(dice: &mut Dice) -> Result<u64, String> {
+fn log_declare_end(dice: &mut Dice) -> Result<u64, Difference> {
     let (log, bytes) = make::log(dice);
-    both(
-        &bytes,
-        Vec::new(),
-        &log,
-        |bytes, _| proved::hp_log_declare_end(log, bytes),
-        |bytes, _| plain::hp_log_declare_end(log.twin(), bytes),
-    )
+    both!(hp_log_declare_end(log, tape); lent tape = &bytes).map(Agreed::refusal)
 }
 
-fn log_answer(dice: &mut Dice) -> Result<u64, String> {
+fn log_answer(dice: &mut Dice) -> Result<u64, Difference> {
     let (log, bytes) = make::log(dice);
     let first = match dice.below(4) {
         0 => make::number(dice) as u32,
@@ -414,38 +261,23 @@ fn log_answer(dice: &mut Dice) -> Result<u64, String> {
         1 => u16::MAX,
         _ => 1 + dice.below(8) as u16,
     };
-    let out = match dice.below(8) {
+    let room = match dice.below(8) {
         0 => make::near(DATAGRAM as u64, dice) as usize,
         1 => dice.below(DATAGRAM),
         _ => DATAGRAM,
     };
-    both(
-        &bytes,
-        blank(out),
-        &(log, first, count),
-        |bytes, out| proved::hp_log_answer(log, bytes, first, count, out),
-        |bytes, out| plain::hp_log_answer(log.twin(), bytes, first, count, out),
-    )
+    both!(hp_log_answer(log, tape, first, count, out); lent tape = &bytes; room out = blank(room))
+        .map(Agreed::refusal)
 }
 
-fn log_heartbeat(dice: &mut Dice) -> Result<u64, String> {
+fn log_heartbeat(dice: &mut Dice) -> Result<u64, Difference> {
     let (log, bytes) = make::log(dice);
-    both(
-        &bytes,
-        room(7, dice),
-        &log,
-        |bytes, out| proved::hp_log_heartbeat(log, bytes, out),
-        |bytes, out| plain::hp_log_heartbeat(log.twin(), bytes, out),
-    )
+    both!(hp_log_heartbeat(log, tape, out); lent tape = &bytes; room out = room(7, dice))
+        .map(Agreed::refusal)
 }
 
-fn log_end_packet(dice: &mut Dice) -> Result<u64, String> {
+fn log_end_packet(dice: &mut Dice) -> Result<u64, Difference> {
     let (log, bytes) = make::log(dice);
-    both(
-        &bytes,
-        room(5, dice),
-        &log,
-        |bytes, out| proved::hp_log_end_packet(log, bytes, out),
-        |bytes, out| plain::hp_log_end_packet(log.twin(), bytes, out),
-    )
+    both!(hp_log_end_packet(log, tape, out); lent tape = &bytes; room out = room(5, dice))
+        .map(Agreed::refusal)
 }

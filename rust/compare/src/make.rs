@@ -230,11 +230,7 @@ pub fn soup(dice: &mut Dice) -> Vec<u8> {
                 _ => length(dice),
             };
             let mut payload = dice.bytes(length);
-            for byte in &mut payload {
-                if *byte == b'\n' {
-                    *byte = b'n';
-                }
-            }
+            without_linefeeds(&mut payload);
             [&[dice.pick(b"+SU")][..], &payload].concat()
         }
     };
@@ -242,8 +238,17 @@ pub fn soup(dice: &mut Dice) -> Vec<u8> {
     packet
 }
 
+/// Puts something else where a linefeed stands.
+pub fn without_linefeeds(bytes: &mut [u8]) {
+    for byte in bytes {
+        if *byte == b'\n' {
+            *byte = b'n';
+        }
+    }
+}
+
 /// The fields of a packet to be written: a type of these, or another, and anything in every field.
-pub fn fields(types: &[u8], left: bool, dice: &mut Dice) -> hp_packet {
+fn fields(types: &[u8], left: bool, dice: &mut Dice) -> hp_packet {
     let r#type = if dice.one_in(16) {
         dice.byte()
     } else {
@@ -265,7 +270,7 @@ pub fn fields(types: &[u8], left: bool, dice: &mut Dice) -> hp_packet {
 }
 
 /// A body to be written, and mostly the count of its blocks.
-pub fn body(fields: &mut hp_packet, limit: usize, dice: &mut Dice) -> Vec<u8> {
+fn body(fields: &mut hp_packet, limit: usize, dice: &mut Dice) -> Vec<u8> {
     let count = few(dice);
     let mut body = match dice.below(3) {
         0 => Vec::new(),
@@ -286,6 +291,23 @@ pub fn body(fields: &mut hp_packet, limit: usize, dice: &mut Dice) -> Vec<u8> {
         damage(&mut body, limit, dice);
     }
     body
+}
+
+/// A packet to be written, of a type of these or another, and its body; mostly none where the type
+/// is not among those that have one.
+pub fn to_write(
+    types: &[u8],
+    bodied: &[u8],
+    left: bool,
+    limit: usize,
+    dice: &mut Dice,
+) -> (hp_packet, Vec<u8>) {
+    let mut fields = fields(types, left, dice);
+    let mut body = body(&mut fields, limit, dice);
+    if !bodied.contains(&fields.r#type) && !dice.one_in(4) {
+        body.clear();
+    }
+    (fields, body)
 }
 
 /// A session record: mostly one that hangs together.

@@ -1,36 +1,39 @@
-//! A whole session over a lossy line, byte for byte through the proved desk.
+//! Whole sessions over a lossy line, byte for byte, through both desks at once.
 
+mod line;
+mod memx;
+mod recorder;
+mod ufo;
+
+pub use memx::Memx;
+pub use ufo::Ufo;
+
+use crate::both::{Agreed, Answer, Difference};
 use crate::dice::Dice;
-use hinurapay::flat::*;
+use hinurapay::flat::hp_record;
+use line::Line;
+use recorder::Recorder;
+use std::thread;
 
 /// The longest datagram.
 const DATAGRAM: usize = 1472;
 
-/// A line one way: what goes in comes out in any order, more than once, or never.
-struct Line {
-    under_way: Vec<Vec<u8>>,
-    /// One in so many datagrams is lost; 0 for none.
-    loss: usize,
-}
-
-impl Line {
-    fn send(&mut self, datagram: &[u8], dice: &mut Dice) {
-        if self.loss != 0 && dice.one_in(self.loss) {
-            return;
-        }
-        self.under_way.push(datagram.to_vec());
-        if dice.one_in(6) {
-            self.under_way.push(datagram.to_vec());
-        }
-    }
-
-    fn receive(&mut self, dice: &mut Dice) -> Option<Vec<u8>> {
-        if self.under_way.is_empty() || dice.one_in(3) {
-            return None;
-        }
-        let early = dice.below(self.under_way.len().min(4));
-        Some(self.under_way.remove(early))
-    }
+/// The sending end of a session.
+pub trait Sender {
+    /// A sender that will have so many messages.
+    fn new(messages: usize) -> Self;
+    /// A fresh record of its session.
+    fn open() -> hp_record;
+    /// Reads one of its datagrams, which no reader may refuse.
+    fn read(datagram: &[u8]);
+    /// One more datagram: the next messages, the end, or a heartbeat.
+    fn send(&mut self, dice: &mut Dice) -> Vec<u8>;
+    /// A request for so many messages from that number on, as it goes over the line.
+    fn request(first: u64, count: u64) -> Vec<u8>;
+    /// The datagrams that answer it.
+    fn answer(&mut self, request: &[u8]) -> Vec<Vec<u8>>;
+    /// The blocks of every message so far.
+    fn log(&self) -> &[u8];
 }
 
 /// What a session came to.
@@ -43,116 +46,70 @@ pub struct Outcome {
     pub complete: bool,
     /// The blocks that were delivered.
     pub tape: Vec<u8>,
-    /// The blocks that the server's log holds.
+    /// The blocks of every message that was sent.
     pub log: Vec<u8>,
 }
 
-/// Plays a UFO session of so many messages over a line that loses one datagram in `loss`, until the
-/// record is complete or so many rounds are over. Panics if either end refuses what it should take.
-pub fn play(seed: u64, messages: usize, loss: usize, rounds: usize) -> Outcome {
+/// Plays a session of so many messages over a line that loses one datagram in `loss`, until the
+/// record is complete or so many rounds are over. Panics if the two desks differ in any answer,
+/// record or byte, or if either end refuses what it should take.
+pub fn play<S: Sender>(seed: u64, messages: usize, loss: usize, rounds: usize) -> Outcome {
+    let _telling = Telling(seed);
     let mut dice = Dice::seeded(seed, messages as u64, loss as u64);
-    let line = || Line {
-        under_way: Vec::new(),
-        loss,
-    };
-    let (mut down, mut up) = (line(), line());
-    let mut bytes = vec![0; messages * 702];
-    let mut log = hp_log::default();
-    let opened = hp_open_ufo(b"8841      ");
-    assert_eq!(opened.refusal, 0);
-    let mut record = opened.record;
-    let mut sheet = hp_sheet::default();
-    let patience = hp_patience {
-        rule: 2,
-        first: 50.0,
-        second: 200.0,
-    };
-    let (mut taken, mut requests, mut tape, mut elapsed) = (0, 0, Vec::new(), 0.0);
+    let (mut down, mut up) = (Line::losing(loss), Line::losing(loss));
+    let mut sender = S::new(messages);
+    let mut recorder = Recorder::opened(S::open());
     for _ in 0..rounds {
-        // the server: a message more, sent as it comes, or the end, or a heartbeat
-        let mut slip = [0; DATAGRAM];
-        let wrote = if log.count < messages as u64 {
-            let length = dice.pick(&[0, 1, 12, 12, 60, 700]);
-            let logged = hp_log_add(log, &mut bytes, &dice.bytes(length));
-            assert_eq!(logged.refusal, 0);
-            log = logged.log;
-            hp_log_answer(log, &bytes, log.count as u32, 1, &mut slip)
-        } else if log.ended == 0 {
-            let logged = hp_log_declare_end(log, &bytes);
-            assert_eq!(logged.refusal, 0);
-            log = logged.log;
-            hp_log_end_packet(log, &bytes, &mut slip)
-        } else if dice.one_in(2) {
-            hp_log_end_packet(log, &bytes, &mut slip)
-        } else {
-            hp_log_heartbeat(log, &bytes, &mut slip)
-        };
-        assert_eq!(wrote.refusal, 0);
-        down.send(&slip[..wrote.bytes as usize], &mut dice);
-        // the server: every request that arrived
-        while let Some(packet) = up.receive(&mut dice) {
-            let whole = hp_ufo_read_up(&packet);
-            assert_eq!(whole.refusal, 0);
-            let mut place = 0;
-            for _ in 0..whole.packet.count {
-                let read = hp_ufo_read_message(&packet, place);
-                assert_eq!((read.refusal, read.packet.r#type), (0, b'T'));
-                place = read.packet.next;
-                let (first, count) = (read.packet.number as u32, read.packet.count);
-                let wrote = hp_log_answer(log, &bytes, first, count, &mut slip);
-                assert_eq!(wrote.refusal, 0);
-                down.send(&slip[..wrote.bytes as usize], &mut dice);
+        down.send(sender.send(&mut dice), &mut dice);
+        while let Some(request) = up.receive(&mut dice) {
+            for datagram in sender.answer(&request) {
+                down.send(datagram, &mut dice);
             }
         }
-        // the recorder: every datagram that arrived
         while let Some(datagram) = down.receive(&mut dice) {
-            let mut out = [0; DATAGRAM];
-            let took = hp_take(record, &datagram, &mut out);
-            assert_eq!(took.refusal, 0);
-            record = took.record;
-            taken += 1;
-            tape.extend(&out[..took.bytes as usize]);
-            assert_eq!(
-                tape,
-                bytes[..tape.len()],
-                "what is delivered is what was logged"
-            );
-            if took.messages > 0 && record.asked != 0 && elapsed > 0.0 {
-                let timed = hp_time(sheet, elapsed);
-                assert_eq!(timed.refusal, 0);
-                sheet = timed.sheet;
-            }
+            S::read(&datagram);
+            recorder.take(&datagram);
+            let due = sender.log().get(..recorder.tape.len());
+            assert_eq!(due, Some(&recorder.tape[..]), "what is delivered was sent");
         }
-        let standing = hp_standing_of(record);
-        assert_eq!(standing.refusal, 0);
-        if standing.complete == 1 {
+        if recorder.complete() {
             break;
         }
-        // the recorder: a request, where one is due
-        elapsed = f64::min(elapsed + 40.0, 60_000.0);
-        let asked = hp_ask(record, sheet, patience, elapsed);
-        assert_eq!(asked.refusal, 0);
-        record = asked.record;
-        if asked.what == 2 {
-            elapsed = 0.0;
-            requests += 1;
-            let request = hp_packet {
-                r#type: b'T',
-                number: asked.first,
-                count: asked.count as u16,
-                ..hp_packet::default()
-            };
-            let wrote = hp_ufo_write_message(request, &[], &mut slip);
-            assert_eq!(wrote.refusal, 0);
-            up.send(&slip[..wrote.bytes as usize], &mut dice);
+        if let Some((first, count)) = recorder.ask() {
+            up.send(S::request(first, count), &mut dice);
         }
     }
-    bytes.truncate(log.used as usize);
     Outcome {
-        taken,
-        requests,
-        complete: hp_standing_of(record).complete == 1,
-        tape,
-        log: bytes,
+        taken: recorder.taken,
+        requests: recorder.requests,
+        complete: recorder.complete(),
+        tape: recorder.tape,
+        log: sender.log().to_vec(),
     }
+}
+
+/// Tells the session's seed where something in it panics.
+struct Telling(u64);
+
+impl Drop for Telling {
+    fn drop(&mut self) {
+        if thread::panicking() {
+            eprintln!("in the session of seed {}", self.0);
+        }
+    }
+}
+
+/// What both desks answered, which is no refusal, and the output; panics if they differ.
+fn agreed<A: Answer>(both: Result<Agreed<A>, Difference>) -> (A, Vec<u8>) {
+    let agreed = both.unwrap_or_else(|difference| panic!("{}", difference.how));
+    assert_eq!(agreed.answer.refusal(), 0);
+    (agreed.answer, agreed.out)
+}
+
+/// The bytes that were written, the rest of the output being as it was.
+fn written(mut out: Vec<u8>, bytes: u64) -> Vec<u8> {
+    let bytes = bytes as usize;
+    assert_eq!(out[bytes..], crate::both::blank(out.len())[bytes..]);
+    out.truncate(bytes);
+    out
 }

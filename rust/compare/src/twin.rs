@@ -22,7 +22,21 @@ macro_rules! its_own_twin {
     )*};
 }
 
-its_own_twin!(u8, u16, u64, f64, [u8; 6], [u8; 10]);
+its_own_twin!(u8, u16, u32, u64, f64, [u8; 6], [u8; 10]);
+
+impl<'a, T: ?Sized> Twin for &'a T {
+    type Other = &'a T;
+    fn twin(self) -> &'a T {
+        self
+    }
+}
+
+impl<'a> Twin for &'a mut [u8] {
+    type Other = &'a mut [u8];
+    fn twin(self) -> &'a mut [u8] {
+        self
+    }
+}
 
 macro_rules! twins {
     ($($name:ident: $($field:ident)*;)*) => {$(

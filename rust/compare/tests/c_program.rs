@@ -10,7 +10,14 @@ fn runs(source: &Path, name: &str) {
     let compiler = if cross { "x86_64-linux-gnu-gcc" } else { "cc" };
     let program = scratch(name);
     let compiled = Command::new(compiler)
-        .args(["-Wall", "-Wextra", "-Werror", "-std=c11", "-O2"])
+        .args([
+            "-Wall",
+            "-Wextra",
+            "-Wpedantic",
+            "-Werror",
+            "-std=c11",
+            "-O2",
+        ])
         .args(if cross { &["-static"][..] } else { &[] })
         .arg("-I")
         .arg(env!("COMPARE_INCLUDE"))
@@ -44,8 +51,21 @@ fn here() -> &'static Path {
 }
 
 #[test]
-fn the_header_and_the_archive_serve_a_c_program() {
-    runs(&here().join("tests/c/first_use.c"), "first_use");
+fn every_function_of_the_header_answers_a_c_program() {
+    let source = here().join("tests/c/all_functions.c");
+    let program = fs::read_to_string(&source).expect("the program can be read");
+    let header = Path::new(env!("COMPARE_INCLUDE")).join("hinurapay.h");
+    let header = fs::read_to_string(header).expect("the header can be read");
+    let declared = header.lines().filter(|line| line.starts_with("hp_"));
+    let mut functions = 0;
+    for line in declared {
+        let (before, _) = line.split_once('(').expect("a function is declared");
+        let (_, name) = before.split_once(' ').expect("with a name");
+        assert!(program.contains(&format!("{name}(")), "{name} is called");
+        functions += 1;
+    }
+    assert_eq!(functions, 24);
+    runs(&source, "all_functions");
 }
 
 #[test]

@@ -1,32 +1,63 @@
-//! Whole sessions over a lossy line, byte for byte through the proved desk.
+//! Whole sessions over a lossy line, byte for byte through both desks at once.
 
-use compare::session::play;
+use compare::session::{play, Memx, Sender, Ufo};
 
-#[test]
-fn a_lossy_line_delivers_the_whole_log() {
+fn delivers_the_whole_log<S: Sender>(seeds: u64, loss: usize) -> u64 {
     let mut requests = 0;
-    for seed in 0..60 {
-        let outcome = play(seed, 40, 3, 5000);
+    for seed in 0..seeds {
+        let outcome = play::<S>(seed, 40, loss, 5000);
         assert!(outcome.complete, "seed {seed}");
         assert_eq!(outcome.tape, outcome.log, "seed {seed}");
         requests += outcome.requests;
     }
-    assert!(requests > 60);
+    requests
+}
+
+#[test]
+fn a_lossy_ufo_line_delivers_the_whole_log() {
+    assert!(delivers_the_whole_log::<Ufo>(100, 3) > 100);
+}
+
+#[test]
+fn a_lossy_memx_line_delivers_the_whole_log() {
+    assert!(delivers_the_whole_log::<Memx>(100, 3) > 100);
 }
 
 #[test]
 fn a_line_that_loses_nothing_delivers_the_whole_log() {
-    for seed in 0..20 {
-        let outcome = play(seed, 30, 0, 2000);
-        assert!(outcome.complete, "seed {seed}");
-        assert_eq!(outcome.tape, outcome.log, "seed {seed}");
-    }
+    delivers_the_whole_log::<Ufo>(30, 0);
+    delivers_the_whole_log::<Memx>(30, 0);
+}
+
+fn delivers_nothing<S: Sender>() {
+    let outcome = play::<S>(1, 30, 1, 200);
+    assert!(!outcome.complete);
+    assert_eq!((outcome.taken, outcome.requests), (0, 0));
+    assert!(outcome.tape.is_empty());
 }
 
 #[test]
 fn a_line_that_loses_everything_delivers_nothing() {
-    let outcome = play(1, 30, 1, 200);
-    assert!(!outcome.complete);
-    assert_eq!((outcome.taken, outcome.requests), (0, 0));
-    assert!(outcome.tape.is_empty());
+    delivers_nothing::<Ufo>();
+    delivers_nothing::<Memx>();
+}
+
+fn a_beginning_of_the_log<S: Sender>() {
+    let mut lacking = 0;
+    for seed in 0..60 {
+        let outcome = play::<S>(seed, 40, 3, 45);
+        assert!(outcome.log.starts_with(&outcome.tape), "seed {seed}");
+        assert!(
+            !outcome.complete || outcome.tape == outcome.log,
+            "seed {seed}"
+        );
+        lacking += usize::from(outcome.tape.len() < outcome.log.len());
+    }
+    assert!(lacking > 30);
+}
+
+#[test]
+fn a_session_that_breaks_off_has_a_beginning_of_the_log() {
+    a_beginning_of_the_log::<Ufo>();
+    a_beginning_of_the_log::<Memx>();
 }

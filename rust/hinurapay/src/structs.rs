@@ -70,7 +70,7 @@ structs! {
         start: u64,
         /// And how many bytes they have.
         length: u64,
-        /// [`hp_ufo_read_message`]: the place of the block after this one; else 0.
+        /// [`hp_ufo_read_message`](crate::flat::hp_ufo_read_message): the place of the block after this one; else 0.
         next: u64,
     }
 

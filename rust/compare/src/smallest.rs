@@ -1,0 +1,44 @@
+//! The smallest case that still shows a difference.
+
+/// Takes bytes away, from the lent bytes and from the output, for as long as the desks differ.
+pub fn smallest(
+    lent: &[u8],
+    out: &[u8],
+    differ: impl Fn(&[u8], &[u8]) -> bool,
+) -> (Vec<u8>, Vec<u8>) {
+    let lent = lessened(lent, |lent| differ(lent, out));
+    let out = lessened(out, |out| differ(&lent, out));
+    (lent, out)
+}
+
+/// Takes away pieces, the large ones first, and keeps what is left where that still differs.
+fn lessened(bytes: &[u8], differs: impl Fn(&[u8]) -> bool) -> Vec<u8> {
+    let mut least = bytes.to_vec();
+    let mut piece = least.len();
+    while piece > 0 {
+        let mut place = 0;
+        while place + piece <= least.len() {
+            let rest = [&least[..place], &least[place + piece..]].concat();
+            if differs(&rest) {
+                least = rest;
+            } else {
+                place += 1;
+            }
+        }
+        piece /= 2;
+    }
+    least
+}
+
+#[cfg(test)]
+mod tests {
+    use super::*;
+
+    #[test]
+    fn only_what_matters_is_left() {
+        let differ =
+            |lent: &[u8], out: &[u8]| lent.windows(2).any(|pair| pair == b"ab") && out.len() > 2;
+        let (lent, out) = smallest(b"..a.ab..b..", &[7; 20], differ);
+        assert_eq!((&lent[..], &out[..]), (&b"ab"[..], &[7; 3][..]));
+    }
+}

@@ -1,0 +1,296 @@
+/* Every function of the header, its answers held against document 01. A check that fails prints its line. */
+#include <hinurapay.h>
+#include <stdio.h>
+#include <string.h>
+
+static int wrong = 0;
+
+#define CHECK(holds)                                                             \
+    do {                                                                         \
+        if (!(holds)) {                                                          \
+            fprintf(stderr, "all_functions.c:%d: not so: %s\n", __LINE__, #holds); \
+            wrong = 1;                                                           \
+        }                                                                        \
+    } while (0)
+
+static const uint8_t NAME[10] = {'8', '8', '4', '1', ' ', ' ', ' ', ' ', ' ', ' '};
+static const uint8_t HELLO[5] = {'h', 'e', 'l', 'l', 'o'};
+
+/* the output, which holds FRESH wherever nothing was written */
+enum { ROOM = 1500, FRESH = 0x5a };
+static uint8_t out[ROOM];
+
+static void clear(void) { memset(out, FRESH, sizeof out); }
+
+/* exactly these bytes stand at the output's start, and nothing after them was touched */
+static int laid(const void *bytes, size_t length) {
+    for (size_t place = length; place < sizeof out; place++)
+        if (out[place] != FRESH) return 0;
+    return memcmp(out, bytes, length) == 0;
+}
+
+/* a packet was written, and it is these bytes */
+static int wrote(hp_wrote answer, const void *bytes, size_t length) {
+    return answer.refusal == 0 && answer.bytes == length && laid(bytes, length);
+}
+
+/* nothing was written, and that is the number */
+static int turned_down(hp_wrote answer, uint64_t refusal) {
+    return answer.refusal == refusal && answer.bytes == 0 && laid("", 0);
+}
+
+static hp_packet of_type(uint8_t type) {
+    hp_packet fields;
+    memset(&fields, 0, sizeof fields);
+    fields.type = type;
+    return fields;
+}
+
+static int same_record(hp_record one, hp_record other) {
+    return one.style == other.style && one.ended == other.ended && memcmp(one.name, other.name, sizeof one.name) == 0
+        && one.session == other.session && one.next == other.next && one.top == other.top && one.asked == other.asked;
+}
+
+static void soup(void) {
+    static const uint8_t accept[] = "A      8841                   1\n"; /* six spaces, nineteen spaces */
+    hp_read read = hp_soup_read(accept, sizeof accept - 1);
+    CHECK(read.refusal == 0 && read.packet.type == 'A' && read.packet.number == 1);
+    CHECK(memcmp(read.packet.name, "      8841", 10) == 0);
+
+    static const uint8_t blank[] = "A      8841                    \n";
+    read = hp_soup_read(blank, sizeof blank - 1);
+    CHECK(read.refusal == 6 && read.packet.type == 0 && read.packet.number == 0);
+
+    static const uint8_t over[] = "A      884118446744073709551616\n";
+    CHECK(hp_soup_read(over, sizeof over - 1).refusal == 7);
+    CHECK(hp_soup_read(over, 0).refusal == 1);
+
+    read = hp_soup_read((const uint8_t *)"Shello\n", 7);
+    CHECK(read.refusal == 0 && read.packet.type == 'S' && read.packet.start == 1 && read.packet.length == 5);
+
+    clear();
+    CHECK(turned_down(hp_soup_write(of_type('S'), HELLO, sizeof HELLO, out, 6), 9));
+    CHECK(turned_down(hp_soup_write(of_type('H'), HELLO, sizeof HELLO, out, sizeof out), 4));
+    CHECK(wrote(hp_soup_write(of_type('S'), HELLO, sizeof HELLO, out, 7), "Shello\n", 7));
+}
+
+static void ufo_down(void) {
+    /* 6 "HI", 7 empty */
+    static const uint8_t packet[14] = {0x53, 0, 0, 0, 6, 0, 2, 0, 2, 0x48, 0x49, 0, 0, 0};
+    hp_read read = hp_ufo_read_down(packet, 13);
+    CHECK(read.refusal == 0 && read.packet.type == 'S' && read.packet.number == 6 && read.packet.count == 2);
+    CHECK(read.packet.start == 7 && read.packet.length == 6 && read.packet.next == 0);
+    CHECK(hp_ufo_read_down(packet, 14).refusal == 4);
+
+    static const uint8_t end[5] = {0x45, 0, 0, 0, 0};
+    read = hp_ufo_read_down(end, sizeof end);
+    CHECK(read.refusal == 0 && read.packet.type == 'E' && read.packet.number == 0);
+
+    hp_block block = hp_next_block(packet + 7, 6, 0);
+    CHECK(block.refusal == 0 && block.start == 2 && block.length == 2 && block.next == 4);
+    block = hp_next_block(packet + 7, 6, 4);
+    CHECK(block.refusal == 0 && block.start == 6 && block.length == 0 && block.next == 6);
+    block = hp_next_block(packet + 7, 6, 6);
+    CHECK(block.refusal == 4 && block.start == 0 && block.length == 0 && block.next == 0);
+
+    clear();
+    hp_packet fields = of_type('S');
+    fields.number = UINT64_C(1) << 32;
+    fields.count = 2;
+    CHECK(turned_down(hp_ufo_write_down(fields, packet + 7, 6, out, sizeof out), 7));
+    fields.number = 6;
+    CHECK(turned_down(hp_ufo_write_down(fields, packet + 7, 6, out, 12), 9));
+    CHECK(wrote(hp_ufo_write_down(fields, packet + 7, 6, out, 13), packet, 13));
+}
+
+static void ufo_up(void) {
+    static const uint8_t packet[12] = {0, 7, 0x54, 0, 0, 0, 3, 0, 2, 0, 1, 'R'}; /* asks 3, two messages; and is there */
+    hp_read read = hp_ufo_read_up(packet, sizeof packet);
+    CHECK(read.refusal == 0 && read.packet.type == 0 && read.packet.count == 2);
+    CHECK(hp_ufo_read_up(packet, 11).refusal == 4);
+
+    read = hp_ufo_read_message(packet, sizeof packet, 0);
+    CHECK(read.refusal == 0 && read.packet.type == 'T' && read.packet.number == 3 && read.packet.count == 2);
+    CHECK(read.packet.next == 9);
+    read = hp_ufo_read_message(packet, sizeof packet, 9);
+    CHECK(read.refusal == 0 && read.packet.type == 'R' && read.packet.next == sizeof packet);
+    CHECK(hp_ufo_read_message(packet, sizeof packet, sizeof packet).refusal == 4);
+
+    clear();
+    hp_packet fields = of_type('T');
+    CHECK(turned_down(hp_ufo_write_message(fields, NULL, 0, out, sizeof out), 6));
+    fields.number = 3;
+    fields.count = 2;
+    CHECK(wrote(hp_ufo_write_message(fields, NULL, 0, out, sizeof out), packet, 9));
+}
+
+static void memx(void) {
+    uint8_t heartbeat[18] = {0, 18};
+    heartbeat[9] = 7;
+    hp_read read = hp_memx_read(heartbeat, sizeof heartbeat);
+    CHECK(read.refusal == 0 && read.packet.type == 0 && read.packet.session == 7 && read.packet.number == 0);
+    uint8_t short_header[18] = {0, 17};
+    CHECK(hp_memx_read(short_header, sizeof short_header).refusal == 5);
+
+    clear();
+    hp_packet fields = of_type(2);
+    fields.session = 7;
+    fields.number = 1;
+    CHECK(turned_down(hp_memx_write(fields, NULL, 0, out, sizeof out), 6)); /* a count of 0 */
+    fields = of_type(0);
+    fields.session = 7;
+    CHECK(wrote(hp_memx_write(fields, NULL, 0, out, sizeof heartbeat), heartbeat, sizeof heartbeat));
+
+    hp_opened opened = hp_open_memx(7);
+    CHECK(opened.refusal == 0 && opened.record.style == 2 && opened.record.session == 7 && opened.record.next == 1);
+    clear();
+    hp_taken taken = hp_take(opened.record, heartbeat, sizeof heartbeat, out, sizeof out);
+    CHECK(taken.refusal == 0 && taken.bytes == 0 && taken.record.top == 0 && taken.record.ended == 0);
+    CHECK(!hp_standing_of(taken.record).complete);
+    heartbeat[9] = 8;
+    taken = hp_take(opened.record, heartbeat, sizeof heartbeat, out, sizeof out);
+    CHECK(taken.refusal == 11 && same_record(taken.record, opened.record) && laid("", 0));
+}
+
+/* two messages taken into a fresh record */
+static void delivery(void) {
+    static const uint8_t packet[] = {'S', 0, 0, 0, 1, 0, 2, 0, 2, 'H', 'I', 0, 0};
+    hp_record fresh = hp_open_ufo(&NAME).record;
+    clear();
+    hp_taken taken = hp_take(fresh, packet, sizeof packet, out, 5);
+    CHECK(taken.refusal == 9 && taken.bytes == 0 && taken.messages == 0 && same_record(taken.record, fresh) && laid("", 0));
+    taken = hp_take(fresh, packet, sizeof packet - 1, out, sizeof out);
+    CHECK(taken.refusal == 4 && same_record(taken.record, fresh) && laid("", 0));
+    taken = hp_take(fresh, packet, sizeof packet, out, 6);
+    CHECK(taken.refusal == 0 && taken.messages == 2 && taken.bytes == 6 && laid(packet + 7, 6));
+    CHECK(taken.record.next == 3 && taken.record.top == 2 && taken.record.ended == 0 && taken.record.asked == 0);
+}
+
+/* takes `S` with this number and so many empty messages */
+static hp_taken take_s(hp_record record, uint8_t number, uint8_t count) {
+    uint8_t packet[7 + 2 * 8] = {0x53, 0, 0, 0, 0, 0, 0};
+    packet[4] = number;
+    packet[6] = count;
+    return hp_take(record, packet, 7 + 2 * (size_t)count, out, sizeof out);
+}
+
+/* takes `E` with this total */
+static hp_taken take_e(hp_record record, uint8_t total) {
+    uint8_t packet[5] = {0x45, 0, 0, 0, 0};
+    packet[4] = total;
+    return hp_take(record, packet, sizeof packet, out, sizeof out);
+}
+
+/* the specimen book's session, and what to ask in it */
+static void record(void) {
+    static const uint8_t blank[10] = {' ', ' ', ' ', ' ', ' ', ' ', ' ', ' ', ' ', ' '};
+    hp_opened refused = hp_open_ufo(&blank);
+    CHECK(refused.refusal == 6 && refused.record.style == 0 && refused.record.next == 0);
+    hp_opened opened = hp_open_ufo(&NAME);
+    CHECK(opened.refusal == 0 && opened.record.style == 1 && memcmp(opened.record.name, NAME, sizeof NAME) == 0);
+    CHECK(opened.record.next == 1 && opened.record.top == 0 && opened.record.asked == 0 && opened.record.ended == 0);
+
+    hp_taken taken = take_s(opened.record, 1, 2);
+    CHECK(taken.refusal == 0 && taken.messages == 2 && taken.bytes == 4);
+    CHECK(taken.record.next == 3 && taken.record.top == 2);
+    taken = take_s(taken.record, 5, 1);
+    CHECK(taken.refusal == 0 && taken.messages == 0 && taken.record.top == 5);
+    hp_standing standing = hp_standing_of(taken.record);
+    CHECK(standing.refusal == 0 && !standing.complete && standing.missing && standing.first == 3 && standing.last == 5);
+
+    hp_sheet sheet = {0, 0, 0};
+    hp_patience never = {0, 0, 0}, fixed = {1, 100, 0};
+    hp_asked asked = hp_ask(taken.record, sheet, never, 0);
+    CHECK(asked.refusal == 0 && asked.what == 2 && asked.first == 3 && asked.count == 3 && asked.record.asked == 3);
+    CHECK(hp_ask(asked.record, sheet, never, 86400000).what == 1);
+    CHECK(hp_ask(asked.record, sheet, fixed, 99).what == 1);
+    CHECK(hp_ask(asked.record, sheet, fixed, 100).what == 2);
+    asked = hp_ask(asked.record, sheet, fixed, -1);
+    CHECK(asked.refusal == 15 && asked.what == 0 && asked.first == 0 && asked.record.asked == 3);
+
+    taken = take_s(taken.record, 2, 3);
+    CHECK(taken.refusal == 0 && taken.messages == 2 && taken.record.next == 5);
+    taken = take_e(taken.record, 5);
+    CHECK(taken.refusal == 0 && taken.record.ended == 1 && hp_standing_of(taken.record).first == 5);
+    taken = take_s(taken.record, 5, 1);
+    standing = hp_standing_of(taken.record);
+    CHECK(taken.refusal == 0 && standing.complete == 1 && standing.missing == 0);
+    CHECK(hp_ask(taken.record, sheet, never, 0).what == 0);
+
+    CHECK(take_e(taken.record, 4).refusal == 12);
+    CHECK(take_s(taken.record, 9, 0).refusal == 12);
+    hp_taken stale = take_s(taken.record, 3, 0);
+    CHECK(stale.refusal == 0 && same_record(stale.record, taken.record));
+    hp_record broken = taken.record;
+    broken.next = 0;
+    CHECK(hp_standing_of(broken).refusal == 10);
+}
+
+static void patience(void) {
+    hp_timed timed = hp_time((hp_sheet){0, 0, 0}, 100);
+    CHECK(timed.refusal == 0 && timed.sheet.mean == 100 && timed.sheet.spread == 50 && timed.sheet.timed == 1);
+    timed = hp_time(timed.sheet, 60);
+    CHECK(timed.refusal == 0 && timed.sheet.mean == 95 && timed.sheet.spread == 47.5);
+    timed = hp_time(timed.sheet, 95);
+    CHECK(timed.refusal == 0 && timed.sheet.mean == 95 && timed.sheet.spread == 35.625);
+    hp_timed refused = hp_time(timed.sheet, 60001);
+    CHECK(refused.refusal == 15 && refused.sheet.spread == 35.625);
+
+    hp_wait wait = hp_wait_of(timed.sheet, (hp_patience){2, 50, 1000});
+    CHECK(wait.refusal == 0 && wait.waits == 1 && wait.milliseconds == 237.5);
+    CHECK(hp_wait_of(timed.sheet, (hp_patience){2, 50, 200}).milliseconds == 200);
+    CHECK(hp_wait_of(timed.sheet, (hp_patience){0, 0, 0}).waits == 0);
+    CHECK(hp_wait_of(timed.sheet, (hp_patience){3, 50, 200}).refusal == 15);
+
+    CHECK(hp_line_lost(10000, 0).yes == 0 && hp_line_lost(10001, 0).yes == 1 && hp_line_lost(0, 1).refusal == 14);
+    CHECK(hp_heartbeat_due(1000, 0).yes == 0 && hp_heartbeat_due(1001, 0).yes == 1 && hp_heartbeat_due(0, 1).refusal == 14);
+}
+
+static void lending(void) {
+    static const uint8_t long_message[1464];
+    static uint8_t bytes[8];
+    hp_log log = {0, 0, 0};
+    hp_logged logged = hp_log_add(log, bytes, sizeof bytes, HELLO, sizeof HELLO);
+    CHECK(logged.refusal == 0 && logged.log.count == 1 && logged.log.used == 7 && logged.log.ended == 0);
+    CHECK(memcmp(bytes, "\0\5hello\0", sizeof bytes) == 0);
+    log = logged.log;
+    CHECK(hp_log_add(log, bytes, sizeof bytes, long_message, sizeof long_message).refusal == 2);
+    logged = hp_log_add(log, bytes, sizeof bytes, HELLO, 0);
+    CHECK(logged.refusal == 9 && logged.log.count == 1 && logged.log.used == 7);
+
+    clear();
+    CHECK(turned_down(hp_log_answer(log, bytes, sizeof bytes, 0, 1, out, sizeof out), 6));
+    CHECK(turned_down(hp_log_answer(log, bytes, sizeof bytes, 1, 1, out, 1471), 9));
+    CHECK(wrote(hp_log_answer(log, bytes, sizeof bytes, 1, 9, out, 1472), "S\0\0\0\1\0\1\0\5hello", 14));
+    clear();
+    CHECK(wrote(hp_log_answer(log, bytes, sizeof bytes, 2, 1, out, 1472), "S\0\0\0\2\0\0", 7));
+    clear();
+    CHECK(turned_down(hp_log_heartbeat(log, bytes, sizeof bytes, out, 6), 9));
+    CHECK(wrote(hp_log_heartbeat(log, bytes, sizeof bytes, out, 7), "S\0\0\0\2\0\0", 7));
+    clear();
+    CHECK(turned_down(hp_log_end_packet(log, bytes, sizeof bytes, out, sizeof out), 12));
+
+    logged = hp_log_declare_end(log, bytes, sizeof bytes);
+    CHECK(logged.refusal == 0 && logged.log.ended == 1 && logged.log.count == 1);
+    log = logged.log;
+    CHECK(wrote(hp_log_end_packet(log, bytes, sizeof bytes, out, 5), "E\0\0\0\1", 5));
+    clear();
+    CHECK(wrote(hp_log_answer(log, bytes, sizeof bytes, 2, 1, out, 1472), "E\0\0\0\1", 5));
+    CHECK(hp_log_declare_end(log, bytes, sizeof bytes).refusal == 13);
+    CHECK(hp_log_add(log, bytes, sizeof bytes, HELLO, 0).refusal == 13);
+    log.used = 6;
+    CHECK(hp_log_add(log, bytes, sizeof bytes, HELLO, 0).refusal == 10);
+    CHECK(hp_log_declare_end(log, bytes, sizeof bytes).refusal == 10);
+}
+
+int main(void) {
+    soup();
+    ufo_down();
+    ufo_up();
+    memx();
+    delivery();
+    record();
+    patience();
+    lending();
+    return wrong;
+}
