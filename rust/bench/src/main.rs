@@ -1,102 +1,77 @@
-//! Times both desks over many small messages: `bench [MESSAGES]`, 20 million unless it says otherwise.
+//! Times both desks: `bench [MESSAGES [REPLAY [DESK]]]`.
 //!
-//! UFO datagrams of fifty messages of twelve bytes are read, then taken into a session record. Both
-//! desks are given the same datagrams and the same output buffer, which is not cleared between
-//! datagrams; neither desk asks for that. A run under emulation, or on a busy machine, says nothing
-//! about the two desks.
+//! Twenty million messages go through every replay, unless it is told otherwise. With a desk named
+//! that desk makes one run, which is not timed: what counts instructions can be held to it.
 
-use hinurapay::flat as proved;
-use ordinary::flat as plain;
+use bench::{Replay, Run, REPLAYS, TURN};
 use std::env;
-use std::hint::black_box;
 use std::process::ExitCode;
-use std::time::{Duration, Instant};
+use std::time::Instant;
 
-/// Messages in a datagram.
-const COUNT: u32 = 50;
-
-/// Bytes in a message.
-const LENGTH: u16 = 12;
-
-/// How often each desk is timed, in turn; the best counts.
+/// How often each desk is timed, the two in turn; the best time counts.
 const ROUNDS: usize = 5;
 
-/// The longest datagram.
-const LIMIT: usize = 1472;
-
-/// Defines a run of one desk: reads and takes so many datagrams, and gives the time and the record's
-/// next number.
-macro_rules! desk {
-    ($name:ident, $desk:ident) => {
-        fn $name(datagrams: u32) -> (Duration, u64) {
-            let mut datagram = datagram();
-            let mut out = [0; LIMIT];
-            let mut record = $desk::hp_open_ufo(b"8841      ").record;
-            let start = Instant::now();
-            for number in 0..datagrams {
-                let first = 1 + number * COUNT;
-                datagram[1..5].copy_from_slice(&first.to_be_bytes());
-                let read = black_box($desk::hp_ufo_read_down(black_box(&datagram)));
-                assert_eq!(read.refusal, 0);
-                let taken = black_box($desk::hp_take(record, black_box(&datagram), &mut out));
-                assert_eq!(taken.refusal, 0);
-                record = taken.record;
-                black_box(&out);
-            }
-            (start.elapsed(), record.next)
-        }
-    };
+/// How many seconds a run takes, and its checksum.
+fn timed(run: Run, messages: u64) -> (f64, u64) {
+    let start = Instant::now();
+    let sum = run(messages);
+    (start.elapsed().as_secs_f64(), sum)
 }
 
-desk!(run_proved, proved);
-desk!(run_plain, plain);
-
-/// An `S` datagram; its number is laid in later.
-fn datagram() -> Vec<u8> {
-    let mut bytes = vec![b'S', 0, 0, 0, 0];
-    bytes.extend((COUNT as u16).to_be_bytes());
-    for number in 0..COUNT {
-        bytes.extend(LENGTH.to_be_bytes());
-        bytes.extend([number as u8; LENGTH as usize]);
+/// Times both desks in turn and prints how they compare.
+fn compare(replay: &Replay, messages: u64) {
+    let (mut proved, mut ordinary) = (f64::INFINITY, f64::INFINITY);
+    for _ in 0..ROUNDS {
+        let (time, sum) = timed(replay.proved, messages);
+        let (other_time, other_sum) = timed(replay.ordinary, messages);
+        assert_eq!(sum, other_sum, "the two desks did not do the same");
+        proved = proved.min(time);
+        ordinary = ordinary.min(other_time);
     }
-    bytes
+    println!(
+        "{}: proved {proved:.3} s, ordinary {ordinary:.3} s, proved / ordinary {:.2} ({})",
+        replay.name,
+        proved / ordinary,
+        replay.about
+    );
+}
+
+/// What the words ask for: how many messages, which replay, which desk.
+fn asked(words: &[String]) -> Option<(u64, Option<&Replay>, Option<Run>)> {
+    let messages = match words.first() {
+        None => 20_000_000,
+        Some(word) => word.parse::<u32>().ok()?,
+    };
+    let replay = match words.get(1) {
+        None => None,
+        Some(word) => Some(REPLAYS.iter().find(|replay| replay.name == word)?),
+    };
+    let run = match (replay, words.get(2).map(String::as_str)) {
+        (_, None) => None,
+        (Some(replay), Some("proved")) => Some(replay.proved),
+        (Some(replay), Some("ordinary")) => Some(replay.ordinary),
+        _ => return None,
+    };
+    let messages = u64::from(messages) / TURN * TURN;
+    (messages > 0 && words.len() < 4).then_some((messages, replay, run))
 }
 
 fn main() -> ExitCode {
-    let messages = match env::args().nth(1).map(|word| word.parse::<u32>()) {
-        None => 20_000_000,
-        Some(Ok(messages)) if messages >= COUNT => messages,
-        _ => {
-            eprintln!(
-                "bench [MESSAGES]: a whole number from {COUNT} to {}",
-                u32::MAX
-            );
-            return ExitCode::from(2);
-        }
+    let words: Vec<String> = env::args().skip(1).collect();
+    let Some((messages, replay, run)) = asked(&words) else {
+        let names = REPLAYS.map(|replay| replay.name).join("|");
+        eprintln!("bench [MESSAGES [{names} [proved|ordinary]]]: {TURN} messages or more");
+        return ExitCode::from(2);
     };
-    let datagrams = messages / COUNT;
-    let expected = u64::from(datagrams * COUNT) + 1;
-    let timed = |run: fn(u32) -> (Duration, u64)| {
-        let (time, next) = run(datagrams);
-        assert_eq!(next, expected, "every message was delivered");
-        time.as_secs_f64()
-    };
-    let (mut proved, mut plain) = (f64::INFINITY, f64::INFINITY);
-    for _ in 0..ROUNDS {
-        proved = proved.min(timed(run_proved));
-        plain = plain.min(timed(run_plain));
+    if let Some(run) = run {
+        println!("{:016x}", run(messages));
+        return ExitCode::SUCCESS;
     }
-    let millions = f64::from(datagrams * COUNT) / 1e6;
-    println!("{millions} million messages of {LENGTH} bytes, {COUNT} to a datagram; each datagram is read, then taken");
-    println!("buffers are not cleared between datagrams; best of {ROUNDS}");
-    println!(
-        "proved:   {proved:.3} s, {:.1} million messages a second",
-        millions / proved
-    );
-    println!(
-        "ordinary: {plain:.3} s, {:.1} million messages a second",
-        millions / plain
-    );
-    println!("proved / ordinary: {:.2}", proved / plain);
+    println!("{messages} messages of 4 to 20 bytes; buffers are not cleared; best of {ROUNDS}");
+    for each in &REPLAYS {
+        if replay.is_none_or(|one| one.name == each.name) {
+            compare(each, messages);
+        }
+    }
     ExitCode::SUCCESS
 }

@@ -1,0 +1,84 @@
+//! The replay of datagrams: each is read, then taken into a session record.
+
+use crate::desk::{Desk, Seen};
+use crate::tape::{messages, Sum, LIMIT};
+use std::hint::black_box;
+
+/// A protocol whose datagrams go into a session record.
+pub trait Protocol {
+    /// What stands before the count and the blocks, the number being 0.
+    const HEADER: &'static [u8];
+    /// Where the last four bytes of the number begin; a replay has no greater numbers.
+    const NUMBER: usize;
+    fn open<D: Desk>() -> D::Record;
+    fn read<D: Desk>(datagram: &[u8]) -> Seen<'_>;
+}
+
+/// UFO.
+pub struct Ufo;
+
+impl Protocol for Ufo {
+    const HEADER: &'static [u8] = &[b'S', 0, 0, 0, 0];
+    const NUMBER: usize = 1;
+
+    fn open<D: Desk>() -> D::Record {
+        D::open_ufo(*b"8841      ")
+    }
+
+    fn read<D: Desk>(datagram: &[u8]) -> Seen<'_> {
+        D::read_ufo(datagram)
+    }
+}
+
+/// MEMX-UDP.
+pub struct Memx;
+
+impl Protocol for Memx {
+    const HEADER: &'static [u8] = &[2, 18, 0, 0, 0, 0, 0, 0, 0, 7, 0, 0, 0, 0, 0, 0, 0, 0];
+    const NUMBER: usize = 14;
+
+    fn open<D: Desk>() -> D::Record {
+        D::open_memx(7)
+    }
+
+    fn read<D: Desk>(datagram: &[u8]) -> Seen<'_> {
+        D::read_memx(datagram)
+    }
+}
+
+/// The tape's messages, so many to a datagram.
+fn datagrams<P: Protocol>(count: usize) -> Vec<Vec<u8>> {
+    let datagram = |messages: &[Vec<u8>]| {
+        let mut bytes = [P::HEADER, &(count as u16).to_be_bytes()].concat();
+        for message in messages {
+            bytes.extend((message.len() as u16).to_be_bytes());
+            bytes.extend(message);
+        }
+        bytes
+    };
+    messages().chunks(count).map(datagram).collect()
+}
+
+/// Replays so many messages, `COUNT` to a datagram, and gives the checksum.
+pub fn replay<P: Protocol, D: Desk, const COUNT: usize>(messages: u64) -> u64 {
+    let mut datagrams = datagrams::<P>(COUNT);
+    let mut out = [0; LIMIT];
+    let mut record = P::open::<D>();
+    let mut sum = Sum::default();
+    let mut first = 1;
+    while first <= messages as u32 {
+        for datagram in &mut datagrams {
+            datagram[P::NUMBER..P::NUMBER + 4].copy_from_slice(&first.to_be_bytes());
+            let seen = black_box(P::read::<D>(black_box(datagram)));
+            sum.add(seen.first);
+            sum.add(seen.count.into());
+            sum.add(seen.body.len() as u64);
+            let (delivered, count) = D::take(&mut record, black_box(datagram), &mut out);
+            sum.add(count);
+            sum.written(delivered);
+            first += COUNT as u32;
+        }
+    }
+    sum.add(D::next(&record));
+    sum.total()
+}

@@ -1,0 +1,154 @@
+//! The two desks, as a Rust program would call each.
+
+/// What a reader says of messages: the first one's number and how many there are, where the
+/// packet tells that, and where they stand.
+pub struct Seen<'a> {
+    pub first: u64,
+    pub count: u16,
+    pub body: &'a [u8],
+}
+
+/// What is called on a desk. Nothing in a replay may be refused, so that a refusal panics.
+pub trait Desk {
+    /// A session record.
+    type Record;
+    /// A log over lent bytes.
+    type Log<'a>;
+
+    fn read_ufo(packet: &[u8]) -> Seen<'_>;
+    fn read_memx(packet: &[u8]) -> Seen<'_>;
+    fn read_soup(packet: &[u8]) -> Seen<'_>;
+
+    fn open_ufo(name: [u8; 10]) -> Self::Record;
+    fn open_memx(session: u64) -> Self::Record;
+    /// Takes a datagram; what is delivered, and how many messages that is.
+    fn take<'a>(record: &mut Self::Record, datagram: &[u8], out: &'a mut [u8]) -> (&'a [u8], u64);
+    /// The number of the next message.
+    fn next(record: &Self::Record) -> u64;
+
+    fn log(bytes: &mut [u8]) -> Self::Log<'_>;
+    fn add(log: &mut Self::Log<'_>, message: &[u8]);
+    /// The packet that answers a request.
+    fn answer<'a>(log: &Self::Log<'_>, first: u32, count: u16, out: &'a mut [u8]) -> &'a [u8];
+}
+
+const REFUSED: &str = "nothing in a replay is refused";
+
+/// The readers of a desk, which both crates name alike.
+macro_rules! readers {
+    ($desk:ident) => {
+        fn read_ufo(packet: &[u8]) -> Seen<'_> {
+            match $desk::ufo::read_down(packet).expect(REFUSED) {
+                $desk::ufo::Down::Sequenced {
+                    first,
+                    count,
+                    blocks,
+                } => seen(first.0, count, blocks),
+                other => panic!("{other:?}"),
+            }
+        }
+
+        fn read_memx(packet: &[u8]) -> Seen<'_> {
+            match $desk::memx::read(packet).expect(REFUSED) {
+                $desk::memx::Packet::Sequenced {
+                    first,
+                    count,
+                    blocks,
+                    ..
+                } => seen(first.0, count, blocks),
+                other => panic!("{other:?}"),
+            }
+        }
+
+        fn read_soup(packet: &[u8]) -> Seen<'_> {
+            match $desk::soup::read(packet).expect(REFUSED) {
+                $desk::soup::Packet::Sequenced(payload) => seen(0, 1, payload),
+                other => panic!("{other:?}"),
+            }
+        }
+    };
+}
+
+fn seen(first: u64, count: u16, body: &[u8]) -> Seen<'_> {
+    Seen { first, count, body }
+}
+
+/// The proved desk, by the crate `hinurapay`.
+pub struct Proved;
+
+impl Desk for Proved {
+    type Record = hinurapay::Record;
+    type Log<'a> = hinurapay::Log<'a>;
+
+    readers!(hinurapay);
+
+    fn open_ufo(name: [u8; 10]) -> Self::Record {
+        hinurapay::Record::open_ufo(hinurapay::Name(name)).expect(REFUSED)
+    }
+
+    fn open_memx(session: u64) -> Self::Record {
+        hinurapay::Record::open_memx(hinurapay::SessionId(session))
+    }
+
+    fn take<'a>(record: &mut Self::Record, datagram: &[u8], out: &'a mut [u8]) -> (&'a [u8], u64) {
+        let taken = record.take(datagram, out).expect(REFUSED);
+        (taken.blocks, taken.messages)
+    }
+
+    fn next(record: &Self::Record) -> u64 {
+        record.next().0
+    }
+
+    fn log(bytes: &mut [u8]) -> Self::Log<'_> {
+        hinurapay::Log::over(bytes)
+    }
+
+    fn add(log: &mut Self::Log<'_>, message: &[u8]) {
+        log.add(message).expect(REFUSED);
+    }
+
+    fn answer<'a>(log: &Self::Log<'_>, first: u32, count: u16, out: &'a mut [u8]) -> &'a [u8] {
+        let length = log.answer(first, count, out).expect(REFUSED);
+        &out[..length]
+    }
+}
+
+/// The ordinary desk, by the crate `ordinary`.
+pub struct Ordinary;
+
+impl Desk for Ordinary {
+    type Record = ordinary::record::Record;
+    type Log<'a> = (ordinary::lend::Log, &'a mut [u8]);
+
+    readers!(ordinary);
+
+    fn open_ufo(name: [u8; 10]) -> Self::Record {
+        ordinary::record::Record::open_ufo(ordinary::kinds::Name(name)).expect(REFUSED)
+    }
+
+    fn open_memx(session: u64) -> Self::Record {
+        ordinary::record::Record::open_memx(ordinary::kinds::SessionId(session))
+    }
+
+    fn take<'a>(record: &mut Self::Record, datagram: &[u8], out: &'a mut [u8]) -> (&'a [u8], u64) {
+        let delivered = record.take_in_place(datagram, out).expect(REFUSED);
+        (&out[..delivered.bytes], delivered.messages)
+    }
+
+    fn next(record: &Self::Record) -> u64 {
+        record.next.0
+    }
+
+    fn log(bytes: &mut [u8]) -> Self::Log<'_> {
+        (ordinary::lend::Log::default(), bytes)
+    }
+
+    fn add(log: &mut Self::Log<'_>, message: &[u8]) {
+        log.0.add(log.1, message).expect(REFUSED);
+    }
+
+    fn answer<'a>(log: &Self::Log<'_>, first: u32, count: u16, out: &'a mut [u8]) -> &'a [u8] {
+        let length = log.0.answer(log.1, first, count, out).expect(REFUSED);
+        &out[..length]
+    }
+}

@@ -1,0 +1,66 @@
+//! Replays of many small messages, each the same through the proved desk and the ordinary one.
+//!
+//! A replay gives the messages of a tape to a desk, panics if any is refused, and answers with a
+//! checksum of what the desk said and wrote.
+
+#![deny(missing_docs)]
+
+mod datagrams;
+mod desk;
+mod log;
+mod soup;
+mod tape;
+
+use datagrams::{Memx, Ufo};
+use desk::{Ordinary, Proved};
+
+/// Replays so many messages, whole turns of the tape, and gives the checksum.
+pub type Run = fn(u64) -> u64;
+
+pub use tape::TURN;
+
+/// One replay, through each desk.
+pub struct Replay {
+    /// What it is called.
+    pub name: &'static str,
+    /// What each message goes through.
+    pub about: &'static str,
+    /// Through the proved desk.
+    pub proved: Run,
+    /// Through the ordinary one.
+    pub ordinary: Run,
+}
+
+/// Every replay there is.
+pub const REPLAYS: [Replay; 5] = [
+    Replay {
+        name: "ufo",
+        about: "UFO datagrams of 50 messages, each read and then taken into a session record",
+        proved: datagrams::replay::<Ufo, Proved, 50>,
+        ordinary: datagrams::replay::<Ufo, Ordinary, 50>,
+    },
+    Replay {
+        name: "ufo-single",
+        about: "the same with one message to a datagram",
+        proved: datagrams::replay::<Ufo, Proved, 1>,
+        ordinary: datagrams::replay::<Ufo, Ordinary, 1>,
+    },
+    Replay {
+        name: "memx",
+        about: "MEMX-UDP datagrams of 50 messages, each read and then taken into a session record",
+        proved: datagrams::replay::<Memx, Proved, 50>,
+        ordinary: datagrams::replay::<Memx, Ordinary, 50>,
+    },
+    Replay {
+        name: "soup",
+        about: "sequenced Soup packets, each read",
+        proved: soup::replay::<Proved>,
+        ordinary: soup::replay::<Ordinary>,
+    },
+    Replay {
+        name: "log",
+        about: "messages added to a log of at most 100, then asked for ten by ten",
+        proved: log::replay::<Proved>,
+        ordinary: log::replay::<Ordinary>,
+    },
+];
