@@ -1,0 +1,201 @@
+//! Packets, lawful and damaged, and what is to be written as one.
+
+use super::{blocks, damage, few, length, near, number, text};
+use crate::dice::Dice;
+use hinurapay::flat::hp_packet;
+
+/// A number as Soup writes it, at times with a leading zero, too great or not a number.
+fn soup_number(dice: &mut Dice) -> Vec<u8> {
+    let digits = match dice.below(10) {
+        0 => dice
+            .pick(&[
+                "",
+                "00",
+                "01",
+                "18446744073709551616",
+                "99999999999999999999",
+            ])
+            .to_string(),
+        1 => dice
+            .pick(&[
+                "18446744073709551615",
+                "18446744073709551614",
+                "10000000000000000000",
+                "18446744073709551620",
+            ])
+            .to_string(),
+        _ => number(dice).to_string(),
+    };
+    let mut field = format!("{digits:>20}").into_bytes();
+    if dice.one_in(10) {
+        field[dice.below(20)] = dice.pick(b" \n0129/:x");
+    }
+    field
+}
+
+/// The count that is laid down for so many blocks: mostly the right one.
+fn told(count: usize, dice: &mut Dice) -> u16 {
+    match dice.below(16) {
+        0 => near(count as u64, dice) as u16,
+        _ => count as u16,
+    }
+}
+
+/// A UFO packet from the server, with this number.
+pub fn ufo_down(number: u64, dice: &mut Dice) -> Vec<u8> {
+    let number = (number as u32).to_be_bytes();
+    match dice.below(8) {
+        0 => [b"A", &text::<10>(false, dice)[..], &number].concat(),
+        1 => vec![b'J', dice.pick(b"ASASB\n")],
+        2 => [b"E", &number[..]].concat(),
+        _ => {
+            let count = few(dice);
+            let told = told(count, dice).to_be_bytes();
+            [b"S", &number[..], &told, &blocks(count, dice)].concat()
+        }
+    }
+}
+
+/// A MEMX-UDP packet of this session and number.
+pub fn memx(session: u64, number: u64, dice: &mut Dice) -> Vec<u8> {
+    let kind = dice.pick(&[0, 1, 2, 2, 2, 2]);
+    let length = if dice.one_in(20) { dice.byte() } else { 18 };
+    let mut packet = vec![kind, length];
+    packet.extend(session.to_be_bytes());
+    packet.extend(number.to_be_bytes());
+    if kind == 2 {
+        let count = few(dice);
+        packet.extend(told(count, dice).to_be_bytes());
+        packet.extend(blocks(count, dice));
+    }
+    packet
+}
+
+/// A UFO packet from the client, and where its blocks begin.
+pub fn ufo_up(dice: &mut Dice) -> (Vec<u8>, Vec<u64>) {
+    let (mut packet, mut places) = (Vec::new(), Vec::new());
+    for _ in 0..1 + few(dice) {
+        let message = match dice.below(6) {
+            0 => [
+                b"L",
+                &text::<6>(false, dice)[..],
+                &text::<10>(false, dice),
+                &text::<10>(false, dice),
+            ]
+            .concat(),
+            1 | 2 => {
+                let (first, count) = (number(dice) as u32, number(dice) as u16);
+                [b"T", &first.to_be_bytes()[..], &count.to_be_bytes()].concat()
+            }
+            3 => {
+                let length = length(dice);
+                [b"U", &dice.bytes(length)[..]].concat()
+            }
+            _ => vec![dice.pick(b"RO")],
+        };
+        places.push(packet.len() as u64);
+        packet.extend((message.len() as u16).to_be_bytes());
+        packet.extend(message);
+    }
+    (packet, places)
+}
+
+/// A Soup packet.
+pub fn soup(dice: &mut Dice) -> Vec<u8> {
+    let mut packet = match dice.below(8) {
+        0 | 1 => [b"A", &text::<10>(true, dice)[..], &soup_number(dice)].concat(),
+        2 | 3 => [
+            b"L",
+            &text::<6>(false, dice)[..],
+            &text::<10>(false, dice),
+            &text::<10>(true, dice),
+            &soup_number(dice),
+        ]
+        .concat(),
+        4 => vec![b'J', dice.pick(b"ASASB\n")],
+        5 => vec![dice.pick(b"HZRO")],
+        _ => {
+            let length = match dice.below(200) {
+                0 => dice.pick(&[4095, 4096, 4097, 4098]),
+                _ => length(dice),
+            };
+            let mut payload = dice.bytes(length);
+            without_linefeeds(&mut payload);
+            [&[dice.pick(b"+SU")][..], &payload].concat()
+        }
+    };
+    packet.push(b'\n');
+    packet
+}
+
+/// Puts something else where a linefeed stands.
+pub fn without_linefeeds(bytes: &mut [u8]) {
+    for byte in bytes {
+        if *byte == b'\n' {
+            *byte = b'n';
+        }
+    }
+}
+
+/// The fields of a packet to be written: a type of these, or another, and anything in every field.
+fn fields(types: &[u8], left: bool, dice: &mut Dice) -> hp_packet {
+    let r#type = if dice.one_in(16) {
+        dice.byte()
+    } else {
+        dice.pick(types)
+    };
+    hp_packet {
+        r#type,
+        reason: dice.pick(b"ASASB\n\0"),
+        count: number(dice) as u16,
+        user: text(false, dice),
+        password: text(false, dice),
+        name: text(left, dice),
+        session: number(dice),
+        number: number(dice),
+        start: number(dice),
+        length: number(dice),
+        next: number(dice),
+    }
+}
+
+/// A body to be written, and mostly the count of its blocks.
+fn body(fields: &mut hp_packet, limit: usize, dice: &mut Dice) -> Vec<u8> {
+    let count = few(dice);
+    let mut body = match dice.below(3) {
+        0 => Vec::new(),
+        _ => blocks(count, dice),
+    };
+    if !body.is_empty() || count == 0 || dice.one_in(2) {
+        fields.count = if body.is_empty() {
+            dice.pick(&[0, 0, 1])
+        } else {
+            told(count, dice)
+        };
+    }
+    if dice.one_in(1000) {
+        body.resize(65_500 + dice.below(70), dice.byte());
+    } else if dice.one_in(100) {
+        body.resize(limit - dice.below(40), dice.byte());
+    } else if dice.one_in(12) {
+        damage(&mut body, limit, dice);
+    }
+    body
+}
+
+/// A packet to be written, of a type of these or another, and its body; mostly none where the type
+/// is not among those that have one.
+pub fn to_write(
+    types: &[u8],
+    bodied: &[u8],
+    left: bool,
+    limit: usize,
+    dice: &mut Dice,
+) -> (hp_packet, Vec<u8>) {
+    let mut fields = fields(types, left, dice);
+    let mut body = body(&mut fields, limit, dice);
+    if !bodied.contains(&fields.r#type) && !dice.one_in(4) {
+        body.clear();
+    }
+    (fields, body)
+}
