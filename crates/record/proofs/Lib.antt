@@ -11,4 +11,5 @@ pub mod Kept
 pub mod Twice
 pub mod Complete
 pub mod Asks
+pub mod Tape
 mod Settled

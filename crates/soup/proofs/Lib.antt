@@ -11,4 +11,5 @@ pub mod Laying
 pub mod Exact
 pub mod Order
 pub mod Specimen
+pub mod Blank
 mod Settled
