@@ -13,8 +13,8 @@ use Rattle.wire.specs.Fields.{bytesOf}
 use Rattle.wire.specs.Reply.{Reply, settle}
 use Rattle.wire.proofs.Width.{length-bytesOf}
 use Rattle.ufo_up.specs.Up.{Message, login, request, writeMessage, readL, readT, readAlone, readMessage, readUp}
+use Rattle.ufo_up.proofs.UpOne.{read-one}
 use Rattle.flat_read.specs.declared.packets.Packet.{Packet}
-use Rattle.flat_read.proofs.Framed.{read-framed}
 use Rattle.flat_write.specs.Writers.{unfit, alone, messageReply}
 use Rattle.flat_write.proofs.Refusing.{None, stands}
 
@@ -26,7 +26,7 @@ abbrev sent : List ℕ → ℕ → Reply
 sent m room = settle (readUp (framed m)) (framed m) room
 
 refuses : (m : List ℕ) (n size room : ℕ) → 2 + length m ≡ size → 0 < length m → readMessage m ≡ refused n → unfit 1472 size n ≡ sent m room
-refuses m n size room l h e = rw (read-framed m n h e, ← l) (stands _ (framed m) room (leb (2 + length m) 1472) n)
+refuses m n size room l h e = rw (read-one m h, e, ← l) (stands _ (framed m) room (leb (2 + length m) 1472) n)
 
 module _ (p : Packet) (body : List ℕ) (room : ℕ) where
   pub unknown-type : None (76 ∷ 84 ∷ 85 ∷ 82 ∷ 79 ∷ []) (p .kind) → messageReply p body room ≡ sent (p .kind ∷ body) room

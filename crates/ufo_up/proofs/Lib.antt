@@ -5,6 +5,7 @@ pub mod UpPacket
 pub mod UpExactOne
 pub mod UpExact
 pub mod UpInTurn
+pub mod UpOne
 pub mod UpReplies
 pub mod UpLaid
 mod Settled

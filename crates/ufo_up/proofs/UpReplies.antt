@@ -1,6 +1,6 @@
 -- What a writer's reply is, by the message's fields: the checks that are left of the reader's, then the room.
 -- Assumes nothing.
-use Prim.Native.Nat.{ℕ, _^_, _≤_, _<_}
+use Prim.Native.Nat.{ℕ, _+_, _^_, _≤_, _<_}
 use mathlib.Core.List.{List, [], _∷_}
 use mathlib.Core.Path.{_≡_, refl, ap, _∙_}
 use mathlib.Core.Bool.{true}
@@ -15,25 +15,19 @@ use Rattle.wire.proofs.Tests.{by-test}
 use Rattle.wire.proofs.Checks.{into-checked}
 use Rattle.wire.proofs.Settling.{settle-further}
 use Rattle.wire.proofs.Width.{length-bytesOf}
-use Rattle.blocks.specs.Blocks.{frame, whole, upstream}
-use Rattle.blocks.proofs.Frames.{length-frame, frames-one}
-use Rattle.blocks.proofs.Cutting.{upstream-frames}
-use Rattle.ufo_up.specs.Up.{Message, login, request, unsequenced, heartbeat, logout, writeMessage, FitMessage, readMessage, readEach, readCut, readUp}
+use Rattle.blocks.specs.Blocks.{frame}
+use Rattle.blocks.proofs.Frames.{length-frame}
+use Rattle.ufo_up.specs.Up.{Message, login, request, unsequenced, heartbeat, logout, writeMessage, FitMessage, readMessage, readUp}
 use Rattle.ufo.specs.Numbers.{highest, held, capped}
 use Rattle.ufo_up.specs.WriteUp.{cappedIn, heldIn, verdict, reply}
-use Rattle.ufo_up.proofs.UpPacket.{opened}
+use Rattle.ufo_up.proofs.UpOne.{read-one}
 use Rattle.ufo_up.proofs.UpExactOne.{full-message, length-message, leftL, leftT, checks-login, checks-request, read-unsequenced, read-message}
 
 -- the packet that holds one message, if the checks cs are left of it
 read-framed : (cs : List Check) (m : Message) → length (writeMessage m) ≤ 1470 → readMessage (writeMessage m) ≡ checked cs (taken m) → readUp (frame (writeMessage m)) ≡ checked cs (taken (m ∷ []))
-unfolding readEach
 read-framed cs m l e =
-    let b = writeMessage m in
-    let n = length-frame b in
-    let u : upstream (frame b) ≡ whole (b ∷ []) = rw (frames-one b) at (upstream-frames (b ∷ []) (omega arith) (omega arith, tt) (full-message m, tt)) in
-    opened (frame b) (λ e. omega arith) (omega arith)
-    ∙ ap readCut u
-    ∙ rw e (into-checked cs (taken m) (λ x. taken (x ∷ [])))
+    rw (read-one (writeMessage m) (full-message m), le-leb (2 + length (writeMessage m)) limit (omega arith), e)
+    (into-checked cs (taken m) (λ x. taken (x ∷ [])))
 
 -- and the reply
 replies : (cs : List Check) (m : Message) (room : ℕ) → length (writeMessage (cappedIn m)) ≤ 1470 → readMessage (writeMessage (cappedIn m)) ≡ checked cs (taken (cappedIn m)) → reply m room ≡ checked cs (checked ((heldIn m else 7) ∷ []) (within room (frame (writeMessage m))))
