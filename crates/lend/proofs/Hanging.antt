@@ -2,19 +2,16 @@
 -- Assumes nothing.
 use Prim.Native.Nat.{ℕ, _-_, _^_, _≤_, _<_}
 use mathlib.Core.List.{List}
-use mathlib.Core.Path.{_≡_, refl, sym, _∙_}
-use mathlib.Core.Bool.{true, false, _&&_, and-false, true≢false}
+use mathlib.Core.Path.{_≡_, _∙_}
+use mathlib.Core.Bool.{true, false, _&&_, and-false}
 use borrow.Author.Tests.{le-leb, lt-leb, leb-true}
 use lib.ListN.{length}
 use lib.Dec.{leb}
-use Rattle.wire.proofs.Tests.{and-left, and-right}
-use Rattle.blocks.specs.Blocks.{Cut, torn, whole, messagesOf}
+use Rattle.wire.proofs.Tests.{both}
+use Rattle.blocks.specs.Blocks.{whole, isWhole}
+use Rattle.blocks.proofs.Counting.{whole-is}
 use Rattle.lend.specs.Log.{small, sound, blocksIn, messagesIn, hangs}
 use Rattle.lend.specs.declared.log.Log.{Log}
-
-sound-whole : (q : Cut) → sound q ≡ true → (q ≡ whole (messagesOf q)) × (small (messagesOf q) ≡ true)
-sound-whole torn e = absurd (true≢false (sym e))
-sound-whole (whole ms) e = (refl, e)
 
 module _ (l : Log) (s : List ℕ) where
   pub record Hangs : Type 0 where
@@ -28,9 +25,10 @@ module _ (l : Log) (s : List ℕ) where
   hanging e =
       let a = leb (l .count) (2 ^ 32 - 2) in
       let b = leb (l .used) (length s) in
-      let q = sound-whole (blocksIn l s) (and-right (a && b) (sound (blocksIn l s)) e) in
-      let f = and-left (a && b) (sound (blocksIn l s)) e in
-      record { count = leb-true (l .count) (2 ^ 32 - 2) (and-left a b f); mark = leb-true (l .used) (length s) (and-right a b f); cuts = q .0; sizes = q .1 }
+      let t = both (a && b) (sound (blocksIn l s)) e in
+      let f = both a b (t .0) in
+      let q = both (isWhole (blocksIn l s)) (small (messagesIn l s)) (t .1) in
+      record { count = leb-true (l .count) (2 ^ 32 - 2) (f .0); mark = leb-true (l .used) (length s) (f .1); cuts = whole-is (blocksIn l s) (q .0); sizes = q .1 }
 
   -- the pass over the blocks decides
   pub hangs-if-sound : l .count ≤ 2 ^ 32 - 2 → l .used ≤ length s → hangs l s ≡ sound (blocksIn l s)

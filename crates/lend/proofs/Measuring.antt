@@ -11,7 +11,7 @@ use lib.ListN.{length, take, drop}
 use lib.Dec.{leb}
 use Rattle.wire.specs.Checks.{_atMost_}
 use Rattle.blocks.specs.Blocks.{frames, first, whole, cut, endAt}
-use Rattle.wire.proofs.Tests.{by-test, leb-same}
+use Rattle.wire.proofs.Tests.{leb-same}
 use Rattle.blocks.proofs.Frames.{length-frames}
 use Rattle.blocks.proofs.Skipping.{SteppedAt, stepped-at, none-at}
 use Rattle.lend.specs.Answer.{greatest, run}
@@ -98,7 +98,7 @@ module _ (s : List ℕ) (at : ℕ) where
       let d = none-at s p ms e in
       let g = none-left (1465 - (p - at)) (suc c) in
       run-torn s at p k c (d .1) ∙ sym (ap (mostFrom k p (suc c)) (d .0) ∙ rw g (ran-none k p []))
-  ran (suc c) (suc n) p k ms h r e = by-test (leb (next - at) 1465) goes stops where
+  ran (suc c) (suc n) p k ms h r e = by (leb (next - at) 1465) refl (λ l. ran c n next (k + 1) others (omega arith) l more-cut) where
     t : SteppedAt s p n ms
     t = stepped-at n s p ms e
 
@@ -117,21 +117,19 @@ module _ (s : List ℕ) (at : ℕ) where
     more-cut : cut n (drop next s) ≡ whole others
     more-cut = rw (← t .ends) (t .cuts)
 
-    goes : leb (next - at) 1465 ≡ true → run s at p k (suc c) ≡ mostFrom k p (suc c) ms
-    goes q =
+    by : (b : Bool) → leb (next - at) 1465 ≡ b → (next - at ≤ 1465 → run s at next (k + 1) c ≡ mostFrom (k + 1) next c others) → run s at p k (suc c) ≡ mostFrom k p (suc c) ms
+    by true q more =
         let l = leb-true (next - at) 1465 q in
         let v = room-left at p (length m) h l in
         let j = greatest (holds others (1465 - (next - at))) c in
         let g : greatest (holds (m ∷ others) room) (suc c) ≡ suc j = rw (v .1) at (first-in m others room c (v .0)) in
         run-on s at p k c (t .inside) (rw (t .ends) l)
         ∙ ap (λ (x : ℕ). run s at x (k + 1) c) (t .ends)
-        ∙ ran c n next (k + 1) others (omega arith) l more-cut
+        ∙ more l
         ∙ ran-more k p m others j
         ∙ ap (λ (x : ℕ). ranFrom k p x (m ∷ others)) (sym g)
         ∙ ap (mostFrom k p (suc c)) (sym (t .are))
-
-    stops : leb (next - at) 1465 ≡ false → run s at p k (suc c) ≡ mostFrom k p (suc c) ms
-    stops q =
+    by false q more =
         let l = leb-false (next - at) 1465 q in
         let g = first-out m others room (suc c) (room-gone at p (length m) h r l) in
         run-full s at p k c (rw (t .ends) l)
