@@ -1,0 +1,36 @@
+use mathlib.Core.Path.{sym, subst}
+use borrow.Author.Needs.{needs}
+use lib.Dec.{T}
+use lib.Ieee.{ofBits, neg}
+use Rattle.specimens.proofs.decimals.thousandths.Statement.{statement}
+use Rattle.specimens.proofs.decimals.thousandths.Tie as tie
+
+truncating-f64-to-u64-requires : tie.Need-truncating-f64-to-u64-requires
+unfolding ofBits neg
+truncating-f64-to-u64-requires c κs = (subst T (sym (c .before .if1 .taken)) tt, subst T (sym (c .if2 .taken)) tt)
+
+nearest-u64-to-f64-requires : tie.Need-nearest-u64-to-f64-requires
+nearest-u64-to-f64-requires c κs = search needs
+
+returns : tie.Need-returns
+returns c = search needs
+
+returns-2 : tie.Need-returns-2
+returns-2 c = search needs
+
+returns-3 : tie.Need-returns-3
+returns-3 c = search needs
+
+returns-4 : tie.Need-returns-4
+returns-4 c = search needs
+
+pub thousandths-spec : {M : Type 1} → statement M
+thousandths-spec =
+    tie.close
+    (tie.spec
+    truncating-f64-to-u64-requires
+    nearest-u64-to-f64-requires
+    returns
+    returns-2
+    returns-3
+    returns-4)

@@ -1,0 +1,71 @@
+use Prim.Native.Nat.{_-_, _≤_}
+use native.Mathlib.Omega.{arith}
+use borrow.Author.Needs.{needs}
+use lib.ListN.{length}
+use Rattle.specimens.proofs.run.Statement.{statement}
+use Rattle.specimens.proofs.run.Tie as tie
+
+abbrev Inv-loop : tie.InvT-loop
+Inv-loop book kept₀ at₀ kept at = at ≤ length book
+
+abbrev μ-loop : tie.MeasureT-loop
+μ-loop book kept₀ at₀ kept at = length book - at
+
+open-memx-requires : tie.Need-open-memx-requires Inv-loop μ-loop
+open-memx-requires c κs = search needs
+
+loop-holds : tie.Need-loop-holds Inv-loop μ-loop
+loop-holds c = omega arith
+
+find-requires : tie.Need-find-requires Inv-loop μ-loop
+find-requires c κs = (omega arith, omega arith)
+
+shared-slice-read-line : tie.Need-shared-slice-read-line Inv-loop μ-loop
+shared-slice-read-line c = omega arith
+
+sub-line : tie.Need-sub-line Inv-loop μ-loop
+sub-line c = omega arith
+
+part-line-start : tie.Need-part-line-start Inv-loop μ-loop
+part-line-start c = omega arith
+
+part-line-end : tie.Need-part-line-end Inv-loop μ-loop
+part-line-end c = omega arith
+
+line-requires : tie.Need-line-requires Inv-loop μ-loop
+line-requires c κs = search needs
+
+returns : tie.Need-returns Inv-loop μ-loop
+returns c = search needs
+
+add-at : tie.Need-add-at Inv-loop μ-loop
+add-at c = omega arith
+
+loop-less : tie.Need-loop-less Inv-loop μ-loop
+loop-less c = omega arith
+
+loop-again : tie.Need-loop-again Inv-loop μ-loop
+loop-again c = omega arith
+
+returns-2 : tie.Need-returns-2 Inv-loop μ-loop
+returns-2 c = search needs
+
+pub run-spec : {M : Type 1} → statement M
+run-spec =
+    tie.close
+    (tie.spec
+    Inv-loop
+    μ-loop
+    open-memx-requires
+    loop-holds
+    find-requires
+    shared-slice-read-line
+    sub-line
+    part-line-start
+    part-line-end
+    line-requires
+    returns
+    add-at
+    loop-less
+    loop-again
+    returns-2)
