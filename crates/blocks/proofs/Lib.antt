@@ -4,6 +4,7 @@ pub mod Frames
 pub mod Places
 pub mod Cutting
 pub mod Joining
+pub mod Filling
 pub mod Skipping
 pub mod Counting
 mod Settled

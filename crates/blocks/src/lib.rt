@@ -49,30 +49,6 @@ pub fn next(s: &[u8], place: usize) -> Block
     }
 }
 
-// Whether exactly `count` blocks stand from a place to the very end.
-pub fn exactly(s: &[u8], place: usize, count: u16) -> bool
-    ensures { λ r. ⌜ r ≡ fills (now (s .entry)) place count ⌝ }
-{
-    let mut at = place;
-    let mut left = count;
-    while 0 < left {
-        match next(s, at) {
-            Block::At {
-                start: _,
-                length: _,
-                next,
-            } => {
-                at = next;
-                left -= 1;
-            }
-            Block::Refused(_) => {
-                return false;
-            }
-        }
-    }
-    at == s.len()
-}
-
 // How many blocks an upstream packet has: one or more, none of them empty, to the very end.
 pub fn count_upstream(s: &[u8]) -> Count
     ensures { λ r. ⌜ r ≡ countOf (upstream (now (s .entry))) ⌝ }
@@ -128,4 +104,14 @@ pub fn skip(s: &[u8], place: usize, k: u64) -> Place
         return Place::Refused(refusal::FRAMING);
     }
     Place::At(at)
+}
+
+// Whether exactly `count` blocks stand from a place to the very end.
+pub fn exactly(s: &[u8], place: usize, count: u16) -> bool
+    ensures { λ r. ⌜ r ≡ fills (now (s .entry)) place count ⌝ }
+{
+    match skip(s, place, count as u64) {
+        Place::At(at) => at == s.len(),
+        Place::Refused(_) => false,
+    }
 }
