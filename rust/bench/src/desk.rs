@@ -108,6 +108,7 @@ impl Desk for Proved {
     }
 
     fn answer<'a>(log: &Self::Log<'_>, first: u32, count: u16, out: &'a mut [u8]) -> &'a [u8] {
+        let first = hinurapay::Sequence(first.into());
         let length = log.answer(first, count, out).expect(REFUSED);
         &out[..length]
     }

@@ -4,19 +4,20 @@ use crate::flat::{
     hp_log, hp_log_add, hp_log_answer, hp_log_declare_end, hp_log_end_packet, hp_log_heartbeat,
     hp_logged,
 };
+use crate::kinds::Sequence;
 use crate::refusal::{taken, written, Refusal};
 
 /// A log over bytes that are lent to it. Every call passes over the log once.
 ///
 /// ```
-/// use hinurapay::{Log, Refusal};
+/// use hinurapay::{Log, Refusal, Sequence};
 ///
 /// let mut bytes = [0; 100];
 /// let mut log = Log::over(&mut bytes);
 /// log.add(b"HI")?;
 /// log.add(b"")?;
 /// let mut out = [0; 1472];
-/// let length = log.answer(1, 9, &mut out)?;
+/// let length = log.answer(Sequence(1), 9, &mut out)?;
 /// assert_eq!(&out[..length], b"S\0\0\0\x01\0\x02\0\x02HI\0\0");
 /// assert_eq!(log.end_packet(&mut out), Err(Refusal::Contradiction));
 /// log.declare_end()?;
@@ -95,7 +96,9 @@ impl<'a> Log<'a> {
     /// of them as there are and as one packet holds, or past the log's end a heartbeat or the end.
     /// Says how many bytes the packet has; 6, 9.
     #[inline]
-    pub fn answer(&self, first: u32, count: u16, out: &mut [u8]) -> Result<usize, Refusal> {
+    pub fn answer(&self, first: Sequence, count: u16, out: &mut [u8]) -> Result<usize, Refusal> {
+        // no log reaches the highest number of four bytes, so that a higher one is answered alike
+        let first = u32::try_from(first.0).unwrap_or(u32::MAX);
         written(hp_log_answer(self.log, self.bytes, first, count, out))
     }
 

@@ -5,7 +5,7 @@
 //! numbers in the text are those of document 01's refusals; see [`Refusal`].
 //!
 //! ```
-//! use hinurapay::{Log, Name, Record};
+//! use hinurapay::{Log, Name, Record, Sequence};
 //!
 //! // the server logs a message and sends it as it comes
 //! let mut bytes = [0; 100];
@@ -13,7 +13,7 @@
 //! log.add(b"hello")?;
 //! log.declare_end()?;
 //! let mut datagram = [0; 1472];
-//! let length = log.answer(1, 1, &mut datagram)?;
+//! let length = log.answer(Sequence(1), 1, &mut datagram)?;
 //!
 //! // the recorder takes it
 //! let mut record = Record::open_ufo(Name(*b"8841      "))?;
