@@ -1,6 +1,6 @@
 -- Messages framed one after the other: lengths, joining, and the block at the front.
 -- Assumes nothing.
-use Prim.Native.Nat.{ℕ, _+_, _<_, _^_}
+use Prim.Native.Nat.{ℕ, zero, suc, _+_, _≤_, _<_, _^_}
 use mathlib.Core.List.{List, [], _∷_, _++_, append-assoc, append-nil}
 use mathlib.Core.Path.{_≡_, refl, sym}
 use mathlib.Core.Bool.{true, false}
@@ -19,6 +19,15 @@ length-frame m = rw (length-append, length-bytesOf)
 pub length-frames : (m : List ℕ) (ms : List (List ℕ)) → length (frames (m ∷ ms)) ≡ 2 + length m + length (frames ms)
 unfolding frames
 length-frames m ms = rw (length-append, length-frame)
+
+pub frames-none : length (frames []) ≡ 0
+unfolding frames
+frames-none = refl
+
+pub frames-drop : (n : ℕ) (ms : List (List ℕ)) → length (frames (drop n ms)) ≤ length (frames ms)
+frames-drop zero ms = omega arith
+frames-drop (suc n) [] = omega arith
+frames-drop (suc n) (m ∷ ms) = omega (arith, frames-drop n ms, length-frames m ms)
 
 -- one message
 pub frames-one : (m : List ℕ) → frames (m ∷ []) ≡ frame m

@@ -46,20 +46,20 @@ fn memx_written(fields: Packet, body: &[u8], out: &mut [u8]) -> Written
     match kind {
         layout::HEARTBEAT => {
             if body.len() != 0 {
-                return unfit(layout::LIMIT, layout::HEADER, body, refusal::FRAMING);
+                return unfit(LIMIT, layout::HEADER, body, refusal::FRAMING);
             }
             memx::writing::write_heartbeat(SessionId(session), Sequence(number), out)
         }
         layout::SHUTDOWN => {
             if body.len() != 0 {
-                return unfit(layout::LIMIT, layout::HEADER, body, refusal::FRAMING);
+                return unfit(LIMIT, layout::HEADER, body, refusal::FRAMING);
             }
             memx::writing::write_shutdown(SessionId(session), Sequence(number), out)
         }
         layout::MESSAGES => {
             memx::writing::write_messages(SessionId(session), Sequence(number), count, body, out)
         }
-        _ => unfit(layout::LIMIT, layout::HEADER, body, refusal::UNKNOWN_TYPE),
+        _ => unfit(LIMIT, layout::HEADER, body, refusal::UNKNOWN_TYPE),
     }
 }
 

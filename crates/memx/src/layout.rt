@@ -1,8 +1,5 @@
 // A packet's layout: its sizes, its places and its types.
-use wire::datagram;
 
-// The most bytes that a packet may have.
-pub const LIMIT: usize = datagram::LIMIT;
 // The bytes of the header, which is also what it says of itself. The count of messages stands after it.
 pub const HEADER: usize = 18;
 // Where the session begins.

@@ -3,6 +3,7 @@ ghost use mathlib.Core.Path.{_≡_};
 ghost use Rattle.memx.specs.Read.{readNews, readMessages, read};
 ghost use Rattle.memx.specs.Reading.{memxOf};
 use crate::layout;
+use wire::datagram::LIMIT;
 use wire::fields;
 use wire::kinds::Sequence;
 use wire::kinds::SessionId;
@@ -90,7 +91,7 @@ pub fn read(d: &[u8]) -> Memx
     if d.len() == 0 {
         return Memx::Refused(refusal::EMPTY);
     }
-    if layout::LIMIT < d.len() {
+    if LIMIT < d.len() {
         return Memx::Refused(refusal::OVERLONG);
     }
     match d[0] {

@@ -8,6 +8,7 @@ ghost use Rattle.wire.specs.Reply.{Settled};
 ghost use Rattle.memx.specs.Packet.{heartbeat, shutdown, headerSize, headed, laid};
 ghost use Rattle.memx.specs.Writing.{sent, reply};
 use crate::layout;
+use wire::datagram::LIMIT;
 use wire::fields;
 use wire::kinds::Sequence;
 use wire::kinds::SessionId;
@@ -65,7 +66,7 @@ pub fn write_messages(
     ensures { λ r. ⌜ Settled (sent (laid (session .0) (first .0) count (now (blocks .entry))) (length (now (out .entry)))) (now (out .entry)) r (now (out .exit)) ⌝ }
 {
     let length = blocks.len();
-    if layout::LIMIT - layout::BLOCKS < length {
+    if LIMIT - layout::BLOCKS < length {
         return Written::Refused(refusal::OVERLONG);
     }
     if !blocks::exactly(blocks, 0, count) {

@@ -1,21 +1,19 @@
 -- Whatever enters the log leaves it hanging together, in bytes, with the messages that were there and none once it had ended.
 -- Assumes nothing.
-use Prim.Native.Nat.{ℕ, _+_}
+use Prim.Native.Nat.{ℕ}
 use mathlib.Core.Path.{_≡_, sym, _∙_}
 use mathlib.Core.List.{List, [], _∷_, _++_, append-nil}
 use mathlib.Core.Bool.{true, false≢true}
-use lib.ListN.{length, take, drop}
+use lib.ListN.{length, take}
 use Rattle.wire.specs.Fields.{Bytes}
 use Rattle.wire.specs.Checks.{taken, _else_}
 use Rattle.wire.proofs.Checks.{all-passed}
-use Rattle.wire.proofs.Width.{bytes-drop, bytes-take, bytes-append}
 use Rattle.blocks.specs.Blocks.{frames, whole, isWhole, messagesOf, Each, Short}
-use Rattle.blocks.proofs.Frames.{bytes-frames}
 use Rattle.blocks.proofs.Cutting.{cut-frames, frames-cut}
 use Rattle.blocks.proofs.Counting.{whole-is}
 use Rattle.lend.specs.Log.{messagesIn, hangs, Kept, extended, growing, fitting, adding, toTheEnd, addingMany, declaring}
 use Rattle.lend.specs.declared.log.Log.{Log}
-use Rattle.lend.proofs.Adding.{small-short, Fits, Grown, added, added-many, declared}
+use Rattle.lend.proofs.Adding.{small-short, Fits, Grown, still-bytes, added, added-many, declared}
 use Rattle.lend.proofs.Many.{frames-all}
 use Rattle.session.proofs.Growing.{Grows}
 
@@ -27,12 +25,6 @@ pub record Hung (l : Log) (s : List ℕ) : Type 0 where
 pub record Leaves (l : Log) (s : List ℕ) (k : Kept) : Type 0 where
   pub hung : Hung (k .log) (k .bytes)
   pub grows : Grows (messagesIn l s) (l .ended) (messagesIn (k .log) (k .bytes)) (k .log .ended)
-
-bytes-extended : (l : Log) (s : List ℕ) (ms : List (List ℕ)) → Bytes s → Each Bytes ms → Bytes (extended l s ms .bytes)
-bytes-extended l s ms b e =
-    let z : List ℕ = drop (l .used + length (frames ms)) s in
-    bytes-append (take (l .used) s) (frames ms ++ z) (bytes-take (l .used) s b)
-    (bytes-append (frames ms) z (bytes-frames ms e) (bytes-drop (l .used + length (frames ms)) s b))
 
 -- blocks of bytes are messages of bytes
 many-bytes : (f : List ℕ) → Bytes f → isWhole (toTheEnd f) ≡ true → Each Short (messagesOf (toTheEnd f)) → Each Bytes (messagesOf (toTheEnd f))
@@ -50,7 +42,7 @@ many-whole l s f k e =
 module _ (l : Log) (s : List ℕ) (h : Hung l s) (k : Kept) where
   more-left : (ms : List (List ℕ)) → Each Bytes ms → Fits l s ms × (k ≡ extended l s ms) × Grown l s ms k → Leaves l s k
   more-left ms b a = record {
-    hung = record { whole = a .2 .hung; bytes = rw (a .1) (bytes-extended l s ms (h .bytes) b) };
+    hung = record { whole = a .2 .hung; bytes = rw (a .1) (still-bytes l s ms (h .bytes) b) };
     grows = record { tail = ms; same = a .2 .messages; shut = λ e. absurd (false≢true (sym (a .0 .goes-on) ∙ e)) };
   }
 

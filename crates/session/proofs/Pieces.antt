@@ -1,13 +1,11 @@
 -- Pieces of a list of messages: one set after what was there before it, and what of it is still to come.
 -- Assumes nothing.
-use Prim.Native.Nat.{ℕ, zero, suc, _+_, _-_, _≤_, _<_}
-use mathlib.Core.Path.{_≡_, refl}
-use mathlib.Core.List.{List, [], _∷_, _++_}
+use Prim.Native.Nat.{ℕ, _+_, _-_, _≤_, _<_}
+use mathlib.Core.Path.{_≡_}
+use mathlib.Core.List.{List, _++_}
 use native.Mathlib.Omega.{arith}
 use lib.ListN.{length, take, drop, length-drop}
 use lib.Seq.{take-add, drop-drop, drop-at, length-take-le}
-use Rattle.blocks.specs.Blocks.{frames}
-use Rattle.blocks.proofs.Frames.{length-frames}
 
 -- a piece from place j, without its first d messages, set after the first j + d
 parts : (log : List (List ℕ)) (j d m : ℕ) → j + (d + m) ≤ length log → take (j + d) log ++ drop d (take (d + m) (drop j log)) ≡ take (j + d + m) log
@@ -24,15 +22,6 @@ joined log i j k a b h =
     let e₂ : k ≡ d + m = omega arith in
     let e₃ : j + k ≡ j + d + m = omega arith in
     cc (parts log j d m (omega arith))
-
-pub frames-none : length (frames []) ≡ 0
-unfolding frames
-frames-none = refl
-
-pub frames-drop : (n : ℕ) (ms : List (List ℕ)) → length (frames (drop n ms)) ≤ length (frames ms)
-frames-drop zero ms = omega arith
-frames-drop (suc n) [] = omega arith
-frames-drop (suc n) (m ∷ ms) = omega (arith, frames-drop n ms, length-frames m ms)
 
 -- counted by numbers: what is left of messages from f on, from n on
 pub rest : (n f : ℕ) (ms : List (List ℕ)) → f ≤ n → n < f + length ms → n + length (drop (n - f) ms) ≡ f + length ms

@@ -9,6 +9,7 @@ use lib.ListN.{length}
 use Rattle.wire.specs.Checks.{Verdict, refused, taken}
 use Rattle.wire.specs.declared.kinds.Name.{Name}
 use Rattle.blocks.specs.Blocks.{frames}
+use Rattle.blocks.proofs.Frames.{frames-none}
 use Rattle.ufo.specs.Down as ufo
 use Rattle.ufo.proofs.DownLaid.{length-laid}
 use Rattle.record.specs.Record.{lawful, hangs}
@@ -19,7 +20,6 @@ use Rattle.record.specs.declared.Session.the-variants.{Ufo}
 use Rattle.record.proofs.Hanging.{hangs-so}
 use Rattle.record.proofs.Hearing.{hears-ufo}
 use Rattle.record.proofs.Reports.{reported, reports}
-use Rattle.session.proofs.Pieces.{frames-none}
 use Rattle.session.proofs.Reports.{carried, Hold, Brings, brings}
 use Rattle.session.proofs.Line.{Wrote}
 

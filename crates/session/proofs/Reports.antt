@@ -12,10 +12,11 @@ use lib.ListN.{length, take, drop}
 use lib.Dec.{leb}
 use Rattle.wire.specs.Checks.{if_then_else_, _atMost_}
 use Rattle.blocks.specs.Blocks.{frames}
+use Rattle.blocks.proofs.Frames.{frames-none, frames-drop}
 use Rattle.record.specs.Hearing.{Report, messages, news, end}
 use Rattle.record.specs.Taking.{topOf, isEnd, contradicts, delivered, told}
 use Rattle.record.specs.declared.Record.{Record}
-use Rattle.session.proofs.Pieces.{joined, frames-none, frames-drop, rest}
+use Rattle.session.proofs.Pieces.{joined, rest}
 
 -- the number of a report's first message; of a report with none, the next to be published
 abbrev pub firstOf : Report → ℕ
