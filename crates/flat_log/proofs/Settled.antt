@@ -6,7 +6,7 @@ use mathlib.Core.List.{List}
 use denote.Ref.{now}
 use Rattle.wire.proofs.Outcomes.{Answered, Determined, same-answer, same-both}
 use Rattle.wire.specs.Checks.{Verdict}
-use Rattle.lend.specs.Log.{Kept}
+use Rattle.log.specs.Log.{Kept}
 use Rattle.flat.proofs.Outcomes.{same-flat-reply}
 use Rattle.flat_log.specs.Lending.{FlatEntered}
 use Rattle.flat_log.specs.declared.FlatLog.{FlatLog}

@@ -6,10 +6,10 @@ use mathlib.Core.List.{List, [], _∷_}
 use Rattle.wire.specs.Checks.{Verdict, taken, _else_, checked, _into_}
 use Rattle.wire.specs.Reply.{Reply}
 use Rattle.lend.specs.Answer.{answerReply, heartbeatReply, endPacketReply}
-use Rattle.lend.specs.Log.{Kept, adding, declaring, loggedOf, leftOf}
-use Rattle.lend.specs.declared.log.Log.{Log}
-use Rattle.lend.specs.declared.log.Logged.{Logged}
-use Rattle.lend.specs.declared.log.Logged.the-variants.{Refused, After}
+use Rattle.log.specs.Log.{Kept, adding, declaring, loggedOf, leftOf}
+use Rattle.log.specs.declared.Log.{Log}
+use Rattle.log.specs.declared.Logged.{Logged}
+use Rattle.log.specs.declared.Logged.the-variants.{Refused, After}
 use Rattle.flat.specs.Flag.{isFlag, says, byteOf}
 use Rattle.flat_log.specs.declared.FlatLog.{FlatLog}
 use Rattle.flat_log.specs.declared.FlatLogged.{FlatLogged}

@@ -2,8 +2,8 @@
 use flat::flag;
 use flat::wrote::Wrote;
 use flat::wrote::wrote_of;
-use lend::log::Log;
-use lend::log::Logged;
+use log::Log;
+use log::Logged;
 use wire::kinds::Sequence;
 use wire::output::Written;
 use wire::refusal;
@@ -64,7 +64,7 @@ pub fn add(given: FlatLog, bytes: &mut [u8], message: &[u8]) -> FlatLogged
     ensures { λ r. ⌜ FlatEntered (addVerdict given (now (bytes .entry)) (now (message .entry))) given (now (bytes .entry)) r (now (bytes .exit)) ⌝ }
 {
     if flag::is_flag(given.ended) {
-        flat_logged(given, lend::log::add(log_of(given), bytes, message))
+        flat_logged(given, log::add(log_of(given), bytes, message))
     } else {
         flat_logged(given, Logged::Refused(refusal::BROKEN))
     }
@@ -74,7 +74,7 @@ pub fn declare_end(given: FlatLog, bytes: &[u8]) -> FlatLogged
     ensures { λ r. ⌜ r ≡ endAnswer given (now (bytes .entry)) ⌝ }
 {
     if flag::is_flag(given.ended) {
-        flat_logged(given, lend::log::declare_end(log_of(given), bytes))
+        flat_logged(given, log::declare_end(log_of(given), bytes))
     } else {
         flat_logged(given, Logged::Refused(refusal::BROKEN))
     }
@@ -85,7 +85,7 @@ pub fn answer(given: FlatLog, bytes: &[u8], first: u32, count: u16, out: &mut [u
 {
     if flag::is_flag(given.ended) {
         let first = Sequence(first as u64);
-        wrote_of(lend::answer::answer(log_of(given), bytes, first, count, out))
+        wrote_of(lend::answer(log_of(given), bytes, first, count, out))
     } else {
         wrote_of(Written::Refused(refusal::BROKEN))
     }
@@ -95,7 +95,7 @@ pub fn heartbeat(given: FlatLog, bytes: &[u8], out: &mut [u8]) -> Wrote
     ensures { λ r. ⌜ FlatSettled (heartbeatFlat given (now (bytes .entry)) (length (now (out .entry)))) (now (out .entry)) r (now (out .exit)) ⌝ }
 {
     if flag::is_flag(given.ended) {
-        wrote_of(lend::answer::heartbeat(log_of(given), bytes, out))
+        wrote_of(lend::heartbeat(log_of(given), bytes, out))
     } else {
         wrote_of(Written::Refused(refusal::BROKEN))
     }
@@ -105,7 +105,7 @@ pub fn end_packet(given: FlatLog, bytes: &[u8], out: &mut [u8]) -> Wrote
     ensures { λ r. ⌜ FlatSettled (endPacketFlat given (now (bytes .entry)) (length (now (out .entry)))) (now (out .entry)) r (now (out .exit)) ⌝ }
 {
     if flag::is_flag(given.ended) {
-        wrote_of(lend::answer::end_packet(log_of(given), bytes, out))
+        wrote_of(lend::end_packet(log_of(given), bytes, out))
     } else {
         wrote_of(Written::Refused(refusal::BROKEN))
     }

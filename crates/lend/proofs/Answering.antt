@@ -19,11 +19,11 @@ use Rattle.blocks.proofs.Cutting.{frames-cut}
 use Rattle.ufo.specs.Down.{messages, write, Fit}
 use Rattle.blocks.proofs.Counting.{count-cut}
 use Rattle.ufo.proofs.DownLaid.{length-laid}
-use Rattle.lend.specs.Log.{small, messagesIn, hangs}
+use Rattle.log.specs.Log.{small, messagesIn, hangs}
 use Rattle.lend.specs.Answer.{greatest, from, goes, heartbeatOf, endOf, answerTo}
-use Rattle.lend.specs.declared.log.Log.{Log}
+use Rattle.log.specs.declared.Log.{Log}
 use Rattle.wire.proofs.Tests.{by-test, and-left, and-right, leb-same}
-use Rattle.lend.proofs.Hanging.{hanging}
+use Rattle.log.proofs.Hanging.{hanging}
 use Rattle.lend.proofs.Greatest.{greatest-bound, greatest-passes, greatest-above, greatest-same}
 use Rattle.lend.proofs.Measuring.{holds}
 

@@ -12,9 +12,9 @@ use Rattle.wire.proofs.Settling.{within-taken}
 use Rattle.wire.proofs.Tests.{nonzero}
 use Rattle.ufo.specs.Down.{Packet, write, Fit, read}
 use Rattle.ufo.proofs.DownExact.{read-write}
-use Rattle.lend.specs.Log.{messagesIn, hangs}
+use Rattle.log.specs.Log.{messagesIn, hangs}
 use Rattle.lend.specs.Answer.{heartbeatOf, endOf, answerTo, answerable, answerReply, heartbeatReply, endPacketReply}
-use Rattle.lend.specs.declared.log.Log.{Log}
+use Rattle.log.specs.declared.Log.{Log}
 use Rattle.lend.proofs.Answering.{few-in, bytes-in, beat-fits, end-fits, answer-fits}
 
 -- bytes that are a lawful packet, which the reader takes

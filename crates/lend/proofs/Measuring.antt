@@ -15,7 +15,7 @@ use Rattle.wire.proofs.Tests.{leb-same}
 use Rattle.blocks.proofs.Frames.{length-frames}
 use Rattle.blocks.proofs.Skipping.{SteppedAt, stepped-at, none-at}
 use Rattle.lend.specs.Answer.{greatest, run}
-use Rattle.lend.specs.declared.answer.Run.{Run}
+use Rattle.lend.specs.declared.Run.{Run}
 use Rattle.lend.proofs.Greatest.{greatest-zero, greatest-none, greatest-moved}
 
 module _ (s : List ℕ) (at p k : ℕ) where

@@ -20,11 +20,11 @@ use Rattle.blocks.proofs.Skipping.{past, Skipped, skipped, skipped-bytes}
 use Rattle.ufo.specs.Down.{messages, write}
 use Rattle.ufo.specs.WriteDown.{messagesReply}
 use Rattle.ufo.proofs.DownLawful.{lawful-fit}
-use Rattle.lend.specs.Log.{messagesIn, hangs}
+use Rattle.log.specs.Log.{messagesIn, hangs}
 use Rattle.lend.specs.Answer.{greatest, goes, packed, run}
-use Rattle.lend.specs.declared.log.Log.{Log}
-use Rattle.lend.specs.declared.answer.Run.{Run}
-use Rattle.lend.proofs.Hanging.{hanging}
+use Rattle.log.specs.declared.Log.{Log}
+use Rattle.lend.specs.declared.Run.{Run}
+use Rattle.log.proofs.Hanging.{hanging}
 use Rattle.lend.proofs.Measuring.{holds, ran}
 use Rattle.lend.proofs.Answering.{count-is, few-in, bytes-in, most-holds, most, from-fits}
 

@@ -18,9 +18,9 @@ use Rattle.ufo.specs.WriteDown.{messagesReply}
 use Rattle.ufo.specs.WriteDown as ufo
 use Rattle.ufo.proofs.DownLaid.{length-laid}
 use Rattle.ufo.proofs.DownLawful.{lawful-reply}
-use Rattle.lend.specs.Log.{messagesIn, hangs}
+use Rattle.log.specs.Log.{messagesIn, hangs}
 use Rattle.lend.specs.Answer.{packed, heartbeatOf, endOf, answerTo, answerReply, heartbeatReply, endPacketReply}
-use Rattle.lend.specs.declared.log.Log.{Log}
+use Rattle.log.specs.declared.Log.{Log}
 use Rattle.lend.proofs.Answering.{count-is, few-in, beat-fits, end-fits}
 
 module _ (l : Log) (s : List ℕ) (h : hangs l s ≡ true) where

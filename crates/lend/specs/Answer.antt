@@ -9,9 +9,9 @@ use Rattle.wire.specs.Datagram.{limit}
 use Rattle.wire.specs.Reply.{Reply, within}
 use Rattle.blocks.specs.Blocks.{endAt}
 use Rattle.ufo.specs.Down.{Packet, messages, end, write}
-use Rattle.lend.specs.Log.{messagesIn, hangs}
-use Rattle.lend.specs.declared.log.Log.{Log}
-use Rattle.lend.specs.declared.answer.Run.{Run}
+use Rattle.log.specs.Log.{messagesIn, hangs}
+use Rattle.log.specs.declared.Log.{Log}
+use Rattle.lend.specs.declared.Run.{Run}
 
 -- the greatest k up to c that passes the test, and 0 where none does
 unfoldable pub greatest : (ℕ → Bool) → ℕ → ℕ

@@ -15,10 +15,10 @@ use Rattle.blocks.proofs.Frames.{short-frames}
 use Rattle.blocks.proofs.Cutting.{cut-frames}
 use Rattle.clock.specs.declared.sheet.Sheet.{Sheet}
 use Rattle.clock.specs.declared.patience.Patience.{Patience}
-use Rattle.lend.specs.Log.{Kept, adding, addingMany, declaring, loggedOf, Entered}
+use Rattle.log.specs.Log.{Kept, adding, addingMany, declaring, loggedOf, Entered}
 use Rattle.lend.specs.Answer.{answerReply, heartbeatReply, endPacketReply}
-use Rattle.lend.specs.declared.log.Logged.{Logged}
-use Rattle.lend.proofs.Adding.{declared}
+use Rattle.log.specs.declared.Logged.{Logged}
+use Rattle.log.proofs.Adding.{declared}
 use Rattle.record.specs.Taking.{Taking, taking, Answered}
 use Rattle.record.specs.Asking.{Wish, nothing, wait, request as wanted, asking, askedOf}
 use Rattle.record.specs.declared.take.Taken.{Taken}

@@ -9,9 +9,9 @@ use lib.Seq.{length-take-le, take-append-seam, getD-take}
 use Rattle.blocks.specs.Blocks.{frames}
 use Rattle.wire.proofs.Width.{bytes-take}
 use Rattle.blocks.proofs.Cutting.{frames-cut}
-use Rattle.lend.specs.Log.{messagesIn}
-use Rattle.lend.specs.declared.log.Log.{Log}
-use Rattle.lend.proofs.Hanging.{hanging}
+use Rattle.log.specs.Log.{messagesIn}
+use Rattle.log.specs.declared.Log.{Log}
+use Rattle.log.proofs.Hanging.{hanging}
 use Rattle.blocks.proofs.Places.{frames-split}
 use Rattle.session.specs.Session.{State, logged}
 use Rattle.session.specs.Promise.{Faithful, Delivered}

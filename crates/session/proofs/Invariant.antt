@@ -15,7 +15,7 @@ use Rattle.wire.specs.Text.{blank, textThenSpaces}
 use Rattle.wire.specs.declared.kinds.Name.{Name}
 use Rattle.wire.proofs.Checks.{all-passed}
 use Rattle.blocks.specs.Blocks.{cut}
-use Rattle.lend.specs.Log.{small, hangs}
+use Rattle.log.specs.Log.{small, hangs}
 use Rattle.record.specs.Record.{fresh, opening}
 use Rattle.record.specs.declared.Record.{Record}
 use Rattle.record.specs.declared.Session.the-variants.{Ufo}

@@ -10,7 +10,7 @@ use lib.ListN.{length, take, drop}
 use lib.Dec.{leb}
 use Rattle.wire.specs.Checks.{if_then_else_, taken}
 use Rattle.ufo.specs.Down as ufo
-use Rattle.lend.specs.Log.{small}
+use Rattle.log.specs.Log.{small}
 use Rattle.lend.specs.Answer.{greatest, from, goes, packed, heartbeatOf, endOf, answerTo}
 use Rattle.lend.proofs.Answering.{Most, most, one-goes}
 use Rattle.record.specs.Hearing.{Report, messages, end, ofUfo}

@@ -10,10 +10,10 @@ use Rattle.wire.specs.Checks.{taken}
 use Rattle.wire.proofs.Checks.{all-passed}
 use Rattle.ufo.specs.Down as ufo
 use Rattle.wire.proofs.Tests.{nonzero as positive}
-use Rattle.lend.specs.Log.{messagesIn}
+use Rattle.log.specs.Log.{messagesIn}
 use Rattle.lend.specs.Answer.{answerTo, answerable, answerReply, heartbeatReply, endPacketReply}
-use Rattle.lend.specs.declared.log.Log.{Log}
-use Rattle.lend.proofs.Hanging.{hanging}
+use Rattle.log.specs.declared.Log.{Log}
+use Rattle.log.proofs.Hanging.{hanging}
 use Rattle.lend.proofs.Given.{Gives, answered, beaten, ended}
 use Rattle.record.specs.Hearing.{Report}
 use Rattle.session.proofs.Lending.{Vouched, beat-vouched, end-vouched, Answer, answer}

@@ -11,10 +11,10 @@ use Rattle.wire.proofs.Checks.{all-passed}
 use Rattle.blocks.specs.Blocks.{frames, whole, isWhole, messagesOf, Each, Short}
 use Rattle.blocks.proofs.Cutting.{cut-frames, frames-cut}
 use Rattle.blocks.proofs.Counting.{whole-is}
-use Rattle.lend.specs.Log.{messagesIn, hangs, Kept, extended, growing, fitting, adding, toTheEnd, addingMany, declaring}
-use Rattle.lend.specs.declared.log.Log.{Log}
-use Rattle.lend.proofs.Adding.{small-short, Fits, Grown, still-bytes, added, added-many, declared}
-use Rattle.lend.proofs.Many.{frames-all}
+use Rattle.log.specs.Log.{messagesIn, hangs, Kept, extended, growing, fitting, adding, toTheEnd, addingMany, declaring}
+use Rattle.log.specs.declared.Log.{Log}
+use Rattle.log.proofs.Adding.{small-short, Fits, Grown, still-bytes, added, added-many, declared}
+use Rattle.log.proofs.Many.{frames-all}
 use Rattle.session.proofs.Growing.{Grows}
 
 pub record Hung (l : Log) (s : List ℕ) : Type 0 where

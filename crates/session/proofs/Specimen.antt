@@ -23,7 +23,7 @@ use Rattle.wire.proofs.Width.{bytes-cons}
 use Rattle.clock.specs.Milliseconds.{whole}
 use Rattle.clock.specs.declared.sheet.Sheet.{Sheet}
 use Rattle.clock.specs.declared.patience.Patience.the-variants.{Never}
-use Rattle.lend.specs.Log as log
+use Rattle.log.specs.Log as log
 use Rattle.lend.specs.Answer.{greatest, answerTo, answerReply, endPacketReply}
 use Rattle.wire.proofs.Tests.{and-left, and-right}
 use Rattle.record.specs.Record.{hangs, fresh}

@@ -11,7 +11,7 @@ use Rattle.wire.specs.Checks.{Verdict, refused, taken}
 use Rattle.wire.specs.Reply.{Reply}
 use Rattle.blocks.specs.Blocks.{frames}
 use Rattle.ufo_up.specs.Up.{Message, login, request, unsequenced, heartbeat, logout}
-use Rattle.lend.specs.Log.{Kept}
+use Rattle.log.specs.Log.{Kept}
 use Rattle.lend.proofs.Answering.{few-in}
 use Rattle.record.specs.Record.{hangs}
 use Rattle.record.specs.Taking.{delivered, Taking, outcome, taking}

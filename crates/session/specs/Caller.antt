@@ -14,10 +14,10 @@ use Rattle.ufo_up.specs.Up.{request}
 use Rattle.ufo_up.specs.WriteUp.{reply}
 use Rattle.clock.specs.declared.sheet.Sheet.{Sheet}
 use Rattle.clock.specs.declared.patience.Patience.{Patience}
-use Rattle.lend.specs.Log.{adding, addingMany, declaring, loggedOf, Entered}
+use Rattle.log.specs.Log.{adding, addingMany, declaring, loggedOf, Entered}
 use Rattle.lend.specs.Answer.{answerReply, heartbeatReply, endPacketReply}
-use Rattle.lend.specs.declared.log.Logged.{Logged}
-use Rattle.lend.specs.declared.log.Logged.the-variants as logged
+use Rattle.log.specs.declared.Logged.{Logged}
+use Rattle.log.specs.declared.Logged.the-variants as logged
 use Rattle.record.specs.Taking.{taking, Answered}
 use Rattle.record.specs.Asking.{asking, askedOf}
 use Rattle.record.specs.declared.take.Taken.{Taken}

@@ -13,7 +13,7 @@ use Rattle.ufo_up.specs.Up.{request, readUp}
 use Rattle.ufo_up.specs.WriteUp.{reply}
 use Rattle.clock.specs.declared.sheet.Sheet.{Sheet}
 use Rattle.clock.specs.declared.patience.Patience.{Patience}
-use Rattle.lend.specs.Log.{hangs}
+use Rattle.log.specs.Log.{hangs}
 use Rattle.lend.specs.Answer.{answerReply}
 use Rattle.record.specs.Standing.{complete, missing, standing}
 use Rattle.record.specs.Asking.{request as wanted, asking}

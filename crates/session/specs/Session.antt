@@ -14,9 +14,9 @@ use Rattle.ufo_up.specs.Up.{Message, login, request, unsequenced, heartbeat, lo
 use Rattle.ufo_up.specs.WriteUp.{reply}
 use Rattle.clock.specs.declared.sheet.Sheet.{Sheet}
 use Rattle.clock.specs.declared.patience.Patience.{Patience}
-use Rattle.lend.specs.Log.{messagesIn, Kept, adding, addingMany, declaring}
+use Rattle.log.specs.Log.{messagesIn, Kept, adding, addingMany, declaring}
 use Rattle.lend.specs.Answer.{answerReply, heartbeatReply, endPacketReply}
-use Rattle.lend.specs.declared.log.Log.{Log}
+use Rattle.log.specs.declared.Log.{Log}
 use Rattle.record.specs.Record.{opening}
 use Rattle.record.specs.Taking.{Taking, taking}
 use Rattle.record.specs.Asking.{Wish, nothing, wait, request as wanted, asking}

@@ -1,9 +1,7 @@
 // The lending end: a message of some length, and what goes out when it and the one after it are asked for.
 use crate::page;
-use lend::answer;
-use lend::log;
-use lend::log::Log;
-use lend::log::Logged;
+use log::Log;
+use log::Logged;
 use wire::fields;
 use wire::kinds::Sequence;
 use wire::output::Written;
@@ -17,7 +15,7 @@ fn beginning(packet: &[u8; 1472]) {
 
 fn sent(log: Log, bytes: &[u8]) {
     let mut out = [0u8; 1472];
-    match answer::answer(log, bytes, Sequence(1), 2, &mut out) {
+    match lend::answer(log, bytes, Sequence(1), 2, &mut out) {
         Written::Refused(n) => page::refused(n),
         Written::Bytes(length) => {
             page::number(b"\n= sent, bytes ", length as u64);

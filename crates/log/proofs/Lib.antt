@@ -1,0 +1,7 @@
+pub mod Passes
+pub mod Hanging
+pub mod Adding
+pub mod Entering
+pub mod Many
+pub mod InTurn
+mod Settled
