@@ -1,16 +1,19 @@
--- What a record says of a tape: an empty one is never complete, and only an end packet ends one.
+-- What a record says of a tape: an empty one is never complete, only an end packet ends one, and then its total stands.
 -- Assumes nothing.
 use Prim.Native.Nat.{ℕ}
 use mathlib.Core.List.{List}
 use mathlib.Core.Path.{_≡_, refl}
 use mathlib.Core.Logic.{_⊎_, inl, inr}
-use mathlib.Core.Bool.{true, _||_, false≢true}
+use mathlib.Core.Bool.{Bool, true, false, not, _&&_, _||_, false≢true, true≢false}
+use native.Mathlib.Omega.{arith}
+use borrow.Author.Tests.{leb-true}
+use lib.Dec.{leb}
 use Rattle.wire.specs.Checks.{taken}
-use Rattle.wire.proofs.Tests.{either}
+use Rattle.wire.proofs.Tests.{by-test, either}
 use Rattle.record.specs.Record.{fresh, lawful, hangs}
 use Rattle.record.specs.Hearing.{Report, messages, news, end, hear}
 use Rattle.record.specs.Standing.{ongoing, complete, standing}
-use Rattle.record.specs.Taking.{isEnd, Taking, taking}
+use Rattle.record.specs.Taking.{topOf, isEnd, Taking, taking}
 use Rattle.record.specs.declared.Record.{Record}
 use Rattle.record.specs.declared.Session.{Session}
 use Rattle.record.specs.declared.Session.the-variants.{Ufo, Memx}
@@ -44,3 +47,16 @@ only-an-end r d room t e h = by (either (r .ended) (isEnd (w .report)) ended) wh
   by : (r .ended ≡ true) ⊎ (isEnd (w .report) ≡ true) → (r .ended ≡ true) ⊎ ((total : ℕ) × (hear (r .session) d ≡ taken (end total)))
   by (inl a) = inl a
   by (inr b) = let q = an-end (w .report) b in inr (q .0, rw (← q .1) (w .heard))
+
+-- a top past that of an ended record would contradict it
+past-end : (ended within other : Bool) → ended ≡ true → within ≡ false → ended && not within || other ≡ false → ⊥
+past-end ended within other h q a = let c : true ≡ false = rw (h, q) at a in true≢false c
+
+-- Once the end was heard the total stands: nothing that is taken changes it.
+pub end-stands : (r : Record) (d : List ℕ) (room : ℕ) (t : Taking) → taking r d room ≡ taken t → r .ended ≡ true → t .after .top .0 ≡ r .top .0
+end-stands r d room t e h =
+    let w = took r d room t e in
+    let top = topOf (w .report) in
+    by-test (leb top (r .top .0))
+    (λ q. let l = leb-true top (r .top .0) q in rw (w .reported .gives) (omega arith))
+    (λ q. absurd (past-end (r .ended) (leb top (r .top .0)) (isEnd (w .report) && not (leb (r .top .0) top)) h q (w .reported .agrees)))
