@@ -8,4 +8,3 @@ pub mod Filling
 pub mod Skipping
 pub mod Counting
 mod Settled
-mod Holding

@@ -4,8 +4,6 @@ ghost use Rattle.blocks.specs.Blocks.{blockAt, fills, upstream, countOf,
 use wire::fields;
 use wire::refusal;
 
-pub mod walker;
-
 // The block that stands at a place: where its data begins, how long that is, and the place after it.
 pub enum Block {
     Refused(u8),

@@ -2,5 +2,6 @@ pub mod Upto
 pub mod Rounding
 pub mod Sound
 pub mod Waits
+pub mod Never
 pub mod Specimen
 mod Settled

@@ -2,4 +2,3 @@ pub mod Milliseconds
 pub mod Answer
 pub mod Sheet
 pub mod Patience
-pub mod Silence

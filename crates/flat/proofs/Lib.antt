@@ -1,3 +1,4 @@
+pub mod Flags
 pub mod Flattening
 pub mod Outcomes
 pub mod Settled

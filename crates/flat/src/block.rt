@@ -1,6 +1,5 @@
 // The data block at a place.
 use blocks::Block;
-use blocks::walker;
 ghost use mathlib.Core.Path.{_≡_};
 ghost use Rattle.flat.specs.Block.{flatBlock, nextBlock};
 

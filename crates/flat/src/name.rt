@@ -1,10 +1,9 @@
 // Ten bytes as a name, and six as a user.
 use wire::kinds::Name;
 use wire::kinds::User;
-use wire::names;
 ghost use mathlib.Core.Path.{_≡_};
 ghost use lib.ListN.{length};
-ghost use Rattle.wire.specs.Names.{nameOf, userOf, nameBytes, userBytes};
+ghost use Rattle.names.specs.Names.{nameOf, userOf, nameBytes, userBytes};
 
 fn packed_name(text: &[u8]) -> Name
     requires { ⌜ length (now text) ≡ 10 ⌝ }

@@ -8,7 +8,7 @@ use Rattle.clock.specs.Answer.{saidOf}
 use Rattle.clock.specs.Milliseconds.{whole}
 use Rattle.clock.specs.Patience.{waiting, waitOf}
 use Rattle.clock.specs.Sheet.{timing, timedOf}
-use Rattle.clock.specs.Silence.{exceeds}
+use Rattle.silence.specs.Silence.{exceeds}
 use Rattle.clock.specs.declared.answer.Said.{Said}
 use Rattle.clock.specs.declared.answer.Said.the-variants as said
 use Rattle.clock.specs.declared.sheet.Sheet.{Sheet}

@@ -6,7 +6,6 @@ use clock::patience::Wait;
 use clock::sheet;
 use clock::sheet::Sheet;
 use clock::sheet::Timed;
-use clock::silence;
 use flat::flag;
 use wire::kinds::Tick;
 use wire::refusal;

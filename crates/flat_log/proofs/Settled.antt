@@ -13,6 +13,8 @@ use Rattle.flat_log.specs.declared.FlatLog.{FlatLog}
 use Rattle.flat_log.specs.declared.FlatLogged.{FlatLogged}
 use Rattle.flat_log.proofs.add.Kinds as add
 use Rattle.flat_log.proofs.add.Reads as add-reads
+use Rattle.flat_log.proofs.add_many.Kinds as add-many
+use Rattle.flat_log.proofs.add_many.Reads as add-many-reads
 use Rattle.flat_log.proofs.declare_end.Kinds as declare-end
 use Rattle.flat_log.proofs.declare_end.Reads as declare-end-reads
 use Rattle.flat_log.proofs.answer.Kinds as answer
@@ -29,6 +31,9 @@ same-entered p q = same-both (p .answer) (q .answer) (p .bytes) (q .bytes)
 
 add-is : Determined 2 add.ps add.r (List ℕ) (λ κs s. now (s .1 .0)) add-reads.Post
 add-is κs a x y s t = same-entered
+
+add-many-is : Determined 2 add-many.ps add-many.r (List ℕ) (λ κs s. now (s .1 .0)) add-many-reads.Post
+add-many-is κs a x y s t = same-entered
 
 declare-end-is : Answered 1 declare-end.ps declare-end.r declare-end-reads.Post
 declare-end-is κs a x y s t = same-answer

@@ -6,7 +6,7 @@ use mathlib.Core.List.{List, [], _∷_}
 use Rattle.wire.specs.Checks.{Verdict, taken, _else_, checked, _into_}
 use Rattle.wire.specs.Reply.{Reply}
 use Rattle.lend.specs.Answer.{answerReply, heartbeatReply, endPacketReply}
-use Rattle.log.specs.Log.{Kept, adding, declaring, loggedOf, leftOf}
+use Rattle.log.specs.Log.{Kept, adding, addingMany, declaring, loggedOf, leftOf}
 use Rattle.log.specs.declared.Log.{Log}
 use Rattle.log.specs.declared.Logged.{Logged}
 use Rattle.log.specs.declared.Logged.the-variants.{Refused, After}
@@ -37,6 +37,9 @@ pub record FlatEntered (v : Verdict Kept) (given : FlatLog) (s : List ℕ) (r : 
 -- the entries: a flag that is none is 10, before all else
 abbrev pub addVerdict : FlatLog → (bytes message : List ℕ) → Verdict Kept
 addVerdict given bytes message = knownLog given into λ l. adding l bytes message
+
+abbrev pub addManyVerdict : FlatLog → (bytes blocks : List ℕ) → Verdict Kept
+addManyVerdict given bytes blocks = knownLog given into λ l. addingMany l bytes blocks
 
 abbrev pub endAnswer : FlatLog → List ℕ → FlatLogged
 endAnswer given bytes = flatLogged given (loggedOf (knownLog given into λ l. declaring l bytes))

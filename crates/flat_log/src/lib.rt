@@ -10,7 +10,7 @@ use wire::refusal;
 ghost use mathlib.Core.Path.{_≡_};
 ghost use lib.ListN.{length};
 ghost use Rattle.flat.specs.Wrote.{FlatSettled};
-ghost use Rattle.flat_log.specs.Lending.{logOf, flatLog, flatLogged, FlatEntered, addVerdict, endAnswer, answerFlat, heartbeatFlat, endPacketFlat};
+ghost use Rattle.flat_log.specs.Lending.{logOf, flatLog, flatLogged, FlatEntered, addVerdict, addManyVerdict, endAnswer, answerFlat, heartbeatFlat, endPacketFlat};
 
 #[repr(C)]
 pub struct FlatLog {
@@ -65,6 +65,17 @@ pub fn add(given: FlatLog, bytes: &mut [u8], message: &[u8]) -> FlatLogged
 {
     if flag::is_flag(given.ended) {
         flat_logged(given, log::add(log_of(given), bytes, message))
+    } else {
+        flat_logged(given, Logged::Refused(refusal::BROKEN))
+    }
+}
+
+// The messages are given as their blocks, and all of them are added or none.
+pub fn add_many(given: FlatLog, bytes: &mut [u8], blocks: &[u8]) -> FlatLogged
+    ensures { λ r. ⌜ FlatEntered (addManyVerdict given (now (bytes .entry)) (now (blocks .entry))) given (now (bytes .entry)) r (now (bytes .exit)) ⌝ }
+{
+    if flag::is_flag(given.ended) {
+        flat_logged(given, log::add_many(log_of(given), bytes, blocks))
     } else {
         flat_logged(given, Logged::Refused(refusal::BROKEN))
     }

@@ -1,2 +1,4 @@
+pub mod Complete
+pub mod Again
 pub mod Rules
 pub mod Settled

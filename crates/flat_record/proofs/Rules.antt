@@ -14,7 +14,7 @@ use Rattle.clock.specs.Patience.{inRange, waiting}
 use Rattle.clock.specs.declared.sheet.Sheet.{Sheet}
 use Rattle.clock.specs.declared.patience.Patience.the-variants.{Fixed}
 use Rattle.record.specs.Record.{hangs}
-use Rattle.record.specs.Asking.{wish, asking}
+use Rattle.asking.specs.Asking.{wish, asking}
 use Rattle.record.specs.declared.Record.{Record}
 use Rattle.flat_clock.specs.Waiting.{ruleOf}
 use Rattle.flat_clock.specs.declared.FlatPatience.{FlatPatience}

@@ -6,7 +6,7 @@ use mathlib.Core.List.{List}
 use denote.Ref.{now}
 use Rattle.wire.proofs.Outcomes.{Answered, Determined, same-answer, same-both}
 use Rattle.wire.specs.Checks.{Verdict}
-use Rattle.record.specs.Taking.{Taking}
+use Rattle.taking.specs.Taking.{Taking}
 use Rattle.flat_record.specs.Keeping.{FlatAnswered}
 use Rattle.flat_record.specs.declared.keeping.FlatRecord.{FlatRecord}
 use Rattle.flat_record.specs.declared.keeping.FlatTaken.{FlatTaken}
@@ -18,8 +18,8 @@ use Rattle.flat_record.proofs.keeping.take.Kinds as take
 use Rattle.flat_record.proofs.keeping.take.Reads as take-reads
 use Rattle.flat_record.proofs.keeping.standing_of.Kinds as standing-of
 use Rattle.flat_record.proofs.keeping.standing_of.Reads as standing-of-reads
-use Rattle.flat_record.proofs.asking.ask.Kinds as ask
-use Rattle.flat_record.proofs.asking.ask.Reads as ask-reads
+use Rattle.flat_record.proofs.requesting.ask.Kinds as ask
+use Rattle.flat_record.proofs.requesting.ask.Reads as ask-reads
 
 -- a verdict settles what is taken, and what is delivered
 pub same-taken : {v : Verdict Taking} {given : FlatRecord} {out l m : List ℕ} {x y : FlatTaken}

@@ -2,15 +2,15 @@
 -- Assumes nothing.
 use lib.Ieee.{Float}
 use Rattle.wire.specs.Checks.{_into_}
-use Rattle.record.specs.Asking.{asking, askedOf}
-use Rattle.record.specs.declared.ask.Asked.{Asked}
-use Rattle.record.specs.declared.ask.Asked.the-variants.{Refused, Nothing, Wait, Request}
+use Rattle.asking.specs.Asking.{asking, askedOf}
+use Rattle.asking.specs.declared.Asked.{Asked}
+use Rattle.asking.specs.declared.Asked.the-variants.{Refused, Nothing, Wait, Request}
 use Rattle.flat_clock.specs.Waiting.{knownSheet, ruleOf}
 use Rattle.flat_clock.specs.declared.FlatPatience.{FlatPatience}
 use Rattle.flat_clock.specs.declared.FlatSheet.{FlatSheet}
 use Rattle.flat_record.specs.Keeping.{knownRecord, flatRecord}
 use Rattle.flat_record.specs.declared.keeping.FlatRecord.{FlatRecord}
-use Rattle.flat_record.specs.declared.asking.FlatAsked.{FlatAsked}
+use Rattle.flat_record.specs.declared.requesting.FlatAsked.{FlatAsked}
 
 -- 0 nothing, 1 wait, 2 request; the record is the one that was given but where a request is made
 abbrev pub flatAsked : FlatRecord → Asked → FlatAsked

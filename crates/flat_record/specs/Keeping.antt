@@ -5,15 +5,15 @@ use mathlib.Core.Path.{_≡_}
 use mathlib.Core.Bool.{Bool, _&&_, _||_}
 use mathlib.Core.List.{List, [], _∷_}
 use Rattle.wire.specs.Checks.{if_then_else_, _is_, Verdict, taken, _else_, checked, _into_}
-use Rattle.wire.specs.Names.{nameOf}
+use Rattle.names.specs.Names.{nameOf}
 use Rattle.wire.specs.Reply.{leftOf}
 use Rattle.record.specs.Standing.{standing, standingOf}
-use Rattle.record.specs.Taking.{Taking, taking, takenOf, blocksOf}
+use Rattle.taking.specs.Taking.{Taking, taking, takenOf, blocksOf}
 use Rattle.record.specs.declared.Session.{Session}
 use Rattle.record.specs.declared.Session.the-variants.{Ufo, Memx}
 use Rattle.record.specs.declared.Record.{Record}
-use Rattle.record.specs.declared.take.Taken.{Taken}
-use Rattle.record.specs.declared.take.Taken.the-variants as takes
+use Rattle.taking.specs.declared.Taken.{Taken}
+use Rattle.taking.specs.declared.Taken.the-variants as takes
 use Rattle.record.specs.declared.standing.Standing.{Standing}
 use Rattle.record.specs.declared.standing.Standing.the-variants as stands
 use Rattle.flat.specs.Flag.{isFlag, says, byteOf}

@@ -3,7 +3,7 @@
 use Prim.Native.Nat.{ℕ}
 use mathlib.Core.List.{List}
 use lib.ListN.{replicate}
-use Rattle.wire.specs.Names.{nameOf}
+use Rattle.names.specs.Names.{nameOf}
 use Rattle.record.specs.Record.{fresh, opening, openedOf}
 use Rattle.record.specs.declared.Session.the-variants.{Memx}
 use Rattle.record.specs.declared.open.Opened.{Opened}

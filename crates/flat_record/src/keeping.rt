@@ -4,7 +4,7 @@ use flat::name::name_of;
 use record::Record;
 use record::Session;
 use record::standing::Standing;
-use record::take::Taken;
+use taking::Taken;
 use wire::kinds::Sequence;
 use wire::kinds::SessionId;
 use wire::refusal;
@@ -144,7 +144,7 @@ pub fn take(given: FlatRecord, datagram: &[u8], out: &mut [u8]) -> FlatTaken
     ensures { λ r. ⌜ FlatAnswered (takeVerdict given (now (datagram .entry)) (length (now (out .entry)))) given (now (out .entry)) r (now (out .exit)) ⌝ }
 {
     if is_readable(given) {
-        flat_taken(given, record::take::take(record_of(given), datagram, out))
+        flat_taken(given, taking::take(record_of(given), datagram, out))
     } else {
         flat_taken(given, Taken::Refused(refusal::BROKEN))
     }

@@ -24,6 +24,8 @@ use Rattle.hinurapay.proofs.writing.hp_ufo_write_down.Kinds as hp-ufo-w
 use Rattle.hinurapay.proofs.writing.hp_ufo_write_down.Reads as hp-ufo-write-down-reads
 use Rattle.hinurapay.proofs.writing.hp_ufo_write_message.Kinds as hp-ufo-write-message
 use Rattle.hinurapay.proofs.writing.hp_ufo_write_message.Reads as hp-ufo-write-message-reads
+use Rattle.hinurapay.proofs.writing.hp_ufo_add_message.Kinds as hp-ufo-add-message
+use Rattle.hinurapay.proofs.writing.hp_ufo_add_message.Reads as hp-ufo-add-message-reads
 use Rattle.hinurapay.proofs.writing.hp_memx_write.Kinds as hp-memx-write
 use Rattle.hinurapay.proofs.writing.hp_memx_write.Reads as hp-memx-write-reads
 use Rattle.hinurapay.proofs.keeping.hp_open_ufo.Kinds as hp-open-ufo
@@ -46,6 +48,8 @@ use Rattle.hinurapay.proofs.waiting.hp_heartbeat_due.Kinds as hp-heartb
 use Rattle.hinurapay.proofs.waiting.hp_heartbeat_due.Reads as hp-heartbeat-due-reads
 use Rattle.hinurapay.proofs.lending.hp_log_add.Kinds as hp-log-add
 use Rattle.hinurapay.proofs.lending.hp_log_add.Reads as hp-log-add-reads
+use Rattle.hinurapay.proofs.lending.hp_log_add_many.Kinds as hp-log-add-many
+use Rattle.hinurapay.proofs.lending.hp_log_add_many.Reads as hp-log-add-many-reads
 use Rattle.hinurapay.proofs.lending.hp_log_declare_end.Kinds as hp-log-declare-end
 use Rattle.hinurapay.proofs.lending.hp_log_declare_end.Reads as hp-log-declare-end-reads
 use Rattle.hinurapay.proofs.lending.hp_log_answer.Kinds as hp-log-answer
@@ -82,6 +86,9 @@ hp-ufo-write-down-is κs a x y s t = same-flat-reply
 hp-ufo-write-message-is : Determined 2 hp-ufo-write-message.ps hp-ufo-write-message.r (List ℕ) (λ κs s. now (s .1 .1 .0)) hp-ufo-write-message-reads.Post
 hp-ufo-write-message-is κs a x y s t = same-flat-reply
 
+hp-ufo-add-message-is : Determined 2 hp-ufo-add-message.ps hp-ufo-add-message.r (List ℕ) (λ κs s. now (s .1 .1 .0)) hp-ufo-add-message-reads.Post
+hp-ufo-add-message-is κs a x y s t = same-flat-reply
+
 hp-memx-write-is : Determined 2 hp-memx-write.ps hp-memx-write.r (List ℕ) (λ κs s. now (s .1 .1 .0)) hp-memx-write-reads.Post
 hp-memx-write-is κs a x y s t = same-flat-reply
 
@@ -114,6 +121,9 @@ hp-heartbeat-due-is κs a x y s t = same-answer
 
 hp-log-add-is : Determined 2 hp-log-add.ps hp-log-add.r (List ℕ) (λ κs s. now (s .1 .0)) hp-log-add-reads.Post
 hp-log-add-is κs a x y s t = same-entered
+
+hp-log-add-many-is : Determined 2 hp-log-add-many.ps hp-log-add-many.r (List ℕ) (λ κs s. now (s .1 .0)) hp-log-add-many-reads.Post
+hp-log-add-many-is κs a x y s t = same-entered
 
 hp-log-declare-end-is : Answered 1 hp-log-declare-end.ps hp-log-declare-end.r hp-log-declare-end-reads.Post
 hp-log-declare-end-is κs a x y s t = same-answer

@@ -1,14 +1,14 @@
 // The session record: opened, taken into, how it stands, what it asks for.
 use flat_clock::FlatPatience;
 use flat_clock::FlatSheet;
-use flat_record::asking;
-use flat_record::asking::FlatAsked;
 use flat_record::keeping;
 use flat_record::keeping::FlatRecord;
 use flat_record::keeping::FlatStanding;
 use flat_record::keeping::FlatTaken;
 use flat_record::opening;
 use flat_record::opening::FlatOpened;
+use flat_record::requesting;
+use flat_record::requesting::FlatAsked;
 ghost use mathlib.Core.Path.{_≡_};
 ghost use lib.ListN.{length};
 ghost use Rattle.flat_record.specs.Asking.{askAnswer};
@@ -52,5 +52,5 @@ pub extern "C" fn hp_ask(
 ) -> FlatAsked
     ensures { λ r. ⌜ r ≡ askAnswer given sheet patience elapsed ⌝ }
 {
-    asking::ask(given, sheet, patience, elapsed)
+    requesting::ask(given, sheet, patience, elapsed)
 }

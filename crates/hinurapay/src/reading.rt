@@ -1,44 +1,47 @@
 // Packets read, and blocks visited.
 use flat::block;
 use flat::block::FlatBlock;
-use flat_read::packets::Read;
+use flat_packet::Read;
 ghost use mathlib.Core.Path.{_≡_};
 ghost use Rattle.flat.specs.Block.{nextBlock};
-ghost use Rattle.flat_read.specs.Readers.{soupRead, downRead, upRead, messageRead, memxRead};
+ghost use Rattle.flat_memx.specs.Reading.{memxRead};
+ghost use Rattle.flat_soup.specs.Reading.{soupRead};
+ghost use Rattle.flat_ufo.specs.Reading.{downRead};
+ghost use Rattle.flat_ufo_up.specs.Reading.{upRead, messageRead};
 
 #[no_mangle]
 pub extern "C" fn hp_soup_read(packet: &[u8]) -> Read
     ensures { λ r. ⌜ r ≡ soupRead (now (packet .entry)) ⌝ }
 {
-    flat_read::read_soup(packet)
+    flat_soup::read(packet)
 }
 
 #[no_mangle]
 pub extern "C" fn hp_ufo_read_down(packet: &[u8]) -> Read
     ensures { λ r. ⌜ r ≡ downRead (now (packet .entry)) ⌝ }
 {
-    flat_read::read_down(packet)
+    flat_ufo::read(packet)
 }
 
 #[no_mangle]
 pub extern "C" fn hp_ufo_read_up(packet: &[u8]) -> Read
     ensures { λ r. ⌜ r ≡ upRead (now (packet .entry)) ⌝ }
 {
-    flat_read::read_up(packet)
+    flat_ufo_up::read(packet)
 }
 
 #[no_mangle]
 pub extern "C" fn hp_ufo_read_message(packet: &[u8], place: u64) -> Read
     ensures { λ r. ⌜ r ≡ messageRead (now (packet .entry)) place ⌝ }
 {
-    flat_read::read_message(packet, place)
+    flat_ufo_up::read_message(packet, place)
 }
 
 #[no_mangle]
 pub extern "C" fn hp_memx_read(packet: &[u8]) -> Read
     ensures { λ r. ⌜ r ≡ memxRead (now (packet .entry)) ⌝ }
 {
-    flat_read::read_memx(packet)
+    flat_memx::read(packet)
 }
 
 #[no_mangle]

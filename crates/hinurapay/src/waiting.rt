@@ -8,17 +8,17 @@ ghost use mathlib.Core.Path.{_≡_};
 ghost use Rattle.flat_clock.specs.Waiting.{timeAnswer, waitAnswer, lineLost, heartbeatDue};
 
 #[no_mangle]
-pub extern "C" fn hp_time(given: FlatSheet, sample: f64) -> FlatTimed
-    ensures { λ r. ⌜ r ≡ timeAnswer given sample ⌝ }
+pub extern "C" fn hp_time(sheet: FlatSheet, sample: f64) -> FlatTimed
+    ensures { λ r. ⌜ r ≡ timeAnswer sheet sample ⌝ }
 {
-    flat_clock::time(given, sample)
+    flat_clock::time(sheet, sample)
 }
 
 #[no_mangle]
-pub extern "C" fn hp_wait_of(given: FlatSheet, patience: FlatPatience) -> FlatWait
-    ensures { λ r. ⌜ r ≡ waitAnswer given patience ⌝ }
+pub extern "C" fn hp_wait_of(sheet: FlatSheet, patience: FlatPatience) -> FlatWait
+    ensures { λ r. ⌜ r ≡ waitAnswer sheet patience ⌝ }
 {
-    flat_clock::wait_of(given, patience)
+    flat_clock::wait_of(sheet, patience)
 }
 
 #[no_mangle]

@@ -1,34 +1,50 @@
 // Packets written.
 use flat::wrote::Wrote;
-use flat_read::packets::Packet;
+use flat_packet::Packet;
 ghost use lib.ListN.{length};
 ghost use Rattle.flat.specs.Wrote.{FlatSettled};
-ghost use Rattle.flat_write.specs.Writers.{soupReply, downReply, messageReply, memxReply};
+ghost use Rattle.flat_compose.specs.Adding.{addFlat};
+ghost use Rattle.flat_memx.specs.Writing.{memxReply};
+ghost use Rattle.flat_soup.specs.Writing.{soupReply};
+ghost use Rattle.flat_ufo.specs.Writing.{downReply};
+ghost use Rattle.flat_ufo_up.specs.Writing.{messageReply};
 
 #[no_mangle]
 pub extern "C" fn hp_soup_write(fields: Packet, body: &[u8], out: &mut [u8]) -> Wrote
     ensures { λ r. ⌜ FlatSettled (soupReply fields (now (body .entry)) (length (now (out .entry)))) (now (out .entry)) r (now (out .exit)) ⌝ }
 {
-    flat_write::write_soup(fields, body, out)
+    flat_soup::write(fields, body, out)
 }
 
 #[no_mangle]
 pub extern "C" fn hp_ufo_write_down(fields: Packet, body: &[u8], out: &mut [u8]) -> Wrote
     ensures { λ r. ⌜ FlatSettled (downReply fields (now (body .entry)) (length (now (out .entry)))) (now (out .entry)) r (now (out .exit)) ⌝ }
 {
-    flat_write::write_down(fields, body, out)
+    flat_ufo::write(fields, body, out)
 }
 
 #[no_mangle]
 pub extern "C" fn hp_ufo_write_message(fields: Packet, body: &[u8], out: &mut [u8]) -> Wrote
     ensures { λ r. ⌜ FlatSettled (messageReply fields (now (body .entry)) (length (now (out .entry)))) (now (out .entry)) r (now (out .exit)) ⌝ }
 {
-    flat_write::write_message(fields, body, out)
+    flat_ufo_up::write_message(fields, body, out)
+}
+
+#[no_mangle]
+pub extern "C" fn hp_ufo_add_message(
+    fields: Packet,
+    body: &[u8],
+    out: &mut [u8],
+    used: u64,
+) -> Wrote
+    ensures { λ r. ⌜ FlatSettled (addFlat fields (now (body .entry)) (now (out .entry)) used) (now (out .entry)) r (now (out .exit)) ⌝ }
+{
+    flat_compose::add(fields, body, out, used)
 }
 
 #[no_mangle]
 pub extern "C" fn hp_memx_write(fields: Packet, body: &[u8], out: &mut [u8]) -> Wrote
     ensures { λ r. ⌜ FlatSettled (memxReply fields (now (body .entry)) (length (now (out .entry)))) (now (out .entry)) r (now (out .exit)) ⌝ }
 {
-    flat_write::write_memx(fields, body, out)
+    flat_memx::write(fields, body, out)
 }

@@ -1,2 +1,4 @@
+pub mod Storing
 pub mod Lying
 mod Settled
+mod Walking

@@ -10,8 +10,8 @@ use ghost.Atoms.{Atoms}
 use contract.Monad.{Fun}
 use Rattle.wire.proofs.Outcomes.{Determines, same-both, by-facts}
 use Rattle.record.proofs.Record as kept
-use Rattle.record.proofs.take.Taken as taken
-use Rattle.record.proofs.ask.Asked as asked
+use Rattle.taking.proofs.Taken as taken
+use Rattle.asking.proofs.Asked as asked
 use Rattle.in_place.proofs.take_lent as take-lent
 use Rattle.in_place.proofs.ask_lent as ask-lent
 

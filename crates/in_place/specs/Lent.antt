@@ -4,11 +4,11 @@ use Prim.Native.Nat.{ℕ}
 use mathlib.Core.Path.{_≡_}
 use mathlib.Core.List.{List}
 use Rattle.wire.specs.Checks.{Verdict, refused, taken}
-use Rattle.record.specs.Taking.{Taking, Answered}
-use Rattle.record.specs.Asking.{Wish, nothing, wait, request, askedOf}
+use Rattle.taking.specs.Taking.{Taking, Answered}
+use Rattle.asking.specs.Asking.{Wish, nothing, wait, request, askedOf}
 use Rattle.record.specs.declared.Record.{Record}
-use Rattle.record.specs.declared.take.Taken.{Taken}
-use Rattle.record.specs.declared.ask.Asked.{Asked}
+use Rattle.taking.specs.declared.Taken.{Taken}
+use Rattle.asking.specs.declared.Asked.{Asked}
 
 abbrev pub onceTaken : Record → Verdict Taking → Record
 onceTaken kept (refused n) = kept

@@ -1,14 +1,14 @@
 // The session record where it lies: a step is tried on a copy, and what comes back is stored only if the step was taken.
+use asking::Asked;
+use asking::ask;
 use clock::patience::Patience;
 use clock::sheet::Sheet;
 use record::Record;
-use record::ask::Asked;
-use record::ask::ask;
-use record::take::Taken;
-use record::take::take;
+use taking::Taken;
+use taking::take;
 ghost use lib.ListN.{length};
-ghost use Rattle.record.specs.Taking.{taking};
-ghost use Rattle.record.specs.Asking.{asking};
+ghost use Rattle.taking.specs.Taking.{taking};
+ghost use Rattle.asking.specs.Asking.{asking};
 ghost use Rattle.in_place.specs.Lent.{TakenLent, AskedLent};
 
 // The same answers as `take`.
@@ -40,9 +40,9 @@ pub fn ask_lent(kept: &mut Record, sheet: Sheet, rule: Patience, elapsed: f64) -
         Asked::Request {
             first: _,
             count: _,
-            after,
+            after: marked,
         } => {
-            *kept = after;
+            *kept = marked;
         }
         _ => {}
     }

@@ -11,7 +11,7 @@ use Rattle.wire.proofs.Checks.{all-passed, taken-same}
 use Rattle.wire.proofs.Settling.{within-taken}
 use Rattle.wire.proofs.Tests.{nonzero}
 use Rattle.ufo.specs.Down.{Packet, write, Fit, read}
-use Rattle.ufo.proofs.DownExact.{read-write}
+use Rattle.ufo.proofs.Exact.{written-is-read}
 use Rattle.log.specs.Log.{messagesIn, hangs}
 use Rattle.lend.specs.Answer.{heartbeatOf, endOf, answerTo, answerable, answerReply, heartbeatReply, endPacketReply}
 use Rattle.log.specs.declared.Log.{Log}
@@ -24,7 +24,7 @@ pub record Gives (d : List ℕ) (p : Packet) : Type 0 where
   pub reads : read d ≡ taken p
 
 gives : (d : List ℕ) (p : Packet) → write p ≡ d → Fit p → Gives d p
-gives d p e f = record { bytes = sym e; fit = f; reads = rw (← e) (read-write p f) }
+gives d p e f = record { bytes = sym e; fit = f; reads = rw (← e) (written-is-read p f) }
 
 module _ (l : Log) (s : List ℕ) (room : ℕ) (d : List ℕ) where
   abbrev held : List (List ℕ)

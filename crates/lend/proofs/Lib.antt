@@ -5,3 +5,5 @@ pub mod Packing
 pub mod Replies
 pub mod Given
 mod Settled
+pub mod Order
+pub mod Limits

@@ -18,8 +18,8 @@ use Rattle.wire.proofs.Width.{bytes-take}
 use Rattle.blocks.proofs.Places.{frames-split}
 use Rattle.blocks.proofs.Skipping.{past, Skipped, skipped, skipped-bytes}
 use Rattle.ufo.specs.Down.{messages, write}
-use Rattle.ufo.specs.WriteDown.{messagesReply}
-use Rattle.ufo.proofs.DownLawful.{lawful-fit}
+use Rattle.ufo_write.specs.WriteDown.{messagesReply}
+use Rattle.ufo_write.proofs.DownLawful.{lawful-fit}
 use Rattle.log.specs.Log.{messagesIn, hangs}
 use Rattle.lend.specs.Answer.{greatest, goes, packed, run}
 use Rattle.log.specs.declared.Log.{Log}

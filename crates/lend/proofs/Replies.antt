@@ -14,10 +14,10 @@ use Rattle.wire.proofs.Settling.{enough-room}
 use Rattle.wire.proofs.Width.{length-bytesOf}
 use Rattle.blocks.specs.Blocks.{frames}
 use Rattle.ufo.specs.Down.{write}
-use Rattle.ufo.specs.WriteDown.{messagesReply}
-use Rattle.ufo.specs.WriteDown as ufo
+use Rattle.ufo_write.specs.WriteDown.{messagesReply}
+use Rattle.ufo_write.specs.WriteDown as ufo
 use Rattle.ufo.proofs.DownLaid.{length-laid}
-use Rattle.ufo.proofs.DownLawful.{lawful-reply}
+use Rattle.ufo_write.proofs.DownLawful.{lawful-reply}
 use Rattle.log.specs.Log.{messagesIn, hangs}
 use Rattle.lend.specs.Answer.{packed, heartbeatOf, endOf, answerTo, answerReply, heartbeatReply, endPacketReply}
 use Rattle.log.specs.declared.Log.{Log}

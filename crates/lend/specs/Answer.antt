@@ -66,10 +66,10 @@ endPacketReply l s room =
     checked ((hangs l s else 10) ∷ (l .ended else 12) ∷ []) (within room (write (endOf (messagesIn l s))))
 
 -- the pass that counts them: after k blocks of s, which ended at p, c more at most, while all
--- lie within 1,465 bytes of the place `at`
+-- lie within what the header leaves of a packet, from the place `at` on
 unfoldable pub run : List ℕ → ℕ → ℕ → ℕ → ℕ → Run
 run s at p k zero = record { count = k; end = p }
 run s at p k (suc c) =
-    if endAt s p atMost length s && endAt s p - at atMost 1465
+    if endAt s p atMost length s && endAt s p - at atMost limit - 7
     then run s at (endAt s p) (k + 1) c
     else record { count = k; end = p }

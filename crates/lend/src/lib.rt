@@ -12,7 +12,6 @@ ghost use Rattle.lend.specs.Answer.{packed, answerReply, heartbeatReply,
 use blocks::Block;
 use blocks::Place;
 use log::Log;
-use ufo::write_down;
 use wire::datagram::LIMIT;
 use wire::kinds::Sequence;
 use wire::output::Written;
@@ -63,7 +62,7 @@ fn send(log: Log, bytes: &[u8], first: Sequence, count: u16, out: &mut [u8]) -> 
         Place::At(at) => {
             let run = measure(held, at, count);
             let end = run.end;
-            write_down::write_messages(first, run.count, &held[at..end], out)
+            ufo_write::write_messages(first, run.count, &held[at..end], out)
         }
         Place::Refused(n) => Written::Refused(n),
     }
@@ -92,9 +91,9 @@ pub fn answer(log: Log, bytes: &[u8], first: Sequence, count: u16, out: &mut [u8
     }
     let ended = log.ended;
     if ended {
-        return write_down::write_end(Sequence(total), out);
+        return ufo_write::write_end(Sequence(total), out);
     }
-    write_down::write_messages(Sequence(total + 1), 0, &bytes[..0], out)
+    ufo_write::write_messages(Sequence(total + 1), 0, &bytes[..0], out)
 }
 
 pub fn heartbeat(log: Log, bytes: &[u8], out: &mut [u8]) -> Written
@@ -104,7 +103,7 @@ pub fn heartbeat(log: Log, bytes: &[u8], out: &mut [u8]) -> Written
         return Written::Refused(refusal::BROKEN);
     }
     let total = log.count;
-    write_down::write_messages(Sequence(total + 1), 0, &bytes[..0], out)
+    ufo_write::write_messages(Sequence(total + 1), 0, &bytes[..0], out)
 }
 
 pub fn end_packet(log: Log, bytes: &[u8], out: &mut [u8]) -> Written
@@ -118,5 +117,5 @@ pub fn end_packet(log: Log, bytes: &[u8], out: &mut [u8]) -> Written
         return Written::Refused(refusal::CONTRADICTION);
     }
     let total = log.count;
-    write_down::write_end(Sequence(total), out)
+    ufo_write::write_end(Sequence(total), out)
 }

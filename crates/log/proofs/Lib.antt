@@ -5,3 +5,4 @@ pub mod Entering
 pub mod Many
 pub mod InTurn
 mod Settled
+pub mod Order

@@ -2,7 +2,7 @@
 -- Assumes nothing.
 use Prim.Native.Nat.{ℕ, suc, _+_, _-_, _≤_, _<_}
 use mathlib.Core.List.{List, [], _∷_}
-use mathlib.Core.Path.{_≡_, refl, sym, _∙_}
+use mathlib.Core.Path.{_≡_, refl, ap, sym, _∙_}
 use mathlib.Core.Bool.{Bool, true, false, _&&_, and-false, and-assoc}
 use native.Mathlib.Nat.{zero-add, add-zero}
 use native.Mathlib.Omega.{arith}
@@ -11,10 +11,11 @@ use lib.ListN.{length, drop, length-drop}
 use lib.Dec.{leb, eqb}
 use Rattle.wire.specs.Checks.{if_then_else_, _atMost_}
 use Rattle.wire.proofs.Tests.{by-test}
-use Rattle.blocks.specs.Blocks.{stated, first, Cut, torn, whole, before, cut, isWhole, endAt}
+use Rattle.blocks.specs.Blocks.{stated, first, Cut, torn, whole, before, cut, isWhole, endAt, blockAt}
+use Rattle.blocks.specs.declared.Block.the-variants as block
 use Rattle.blocks.specs.declared.Count.{Count}
 use Rattle.blocks.specs.declared.Count.the-variants as count
-use Rattle.blocks.proofs.Steps.{is-there, not-there, cut-step, fills-torn, fills-end, rest-at}
+use Rattle.blocks.proofs.Steps.{found, missed, is-there, not-there, cut-step, fills-torn, fills-end, rest-at}
 use Rattle.blocks.proofs.Frames.{length-first}
 use Rattle.log.specs.Log.{small, sound, cutAll, tallied}
 
@@ -85,3 +86,41 @@ module _ (s : List ℕ) (p : ℕ) where
   unfolding cutAll small
   tally-end n k b v e h = rw (eq-eqb (length (drop p s)) 0 (rw length-drop (omega arith)), e)
       (by-test v (λ t. rw (t, add-zero k)) (λ t. rw t))
+
+-- a turn of the pass over exactly n of them, from p on: by what was found there
+module _ (s : List ℕ) (p n : ℕ) (more : 0 < n) where
+  one-more : n ≡ suc (n - 1)
+  one-more = omega arith
+
+  pub long-turn : (f l t : ℕ) → blockAt s p ≡ block.At f l t → 1463 < l → sound (cut n (drop p s)) ≡ false
+  long-turn f l t e h = let b = found s p f l t e in rw one-more (sound-long s p (b .2) (n - 1) (rw (b .1) at h))
+
+  pub good-turn : (f l t : ℕ) → blockAt s p ≡ block.At f l t → l ≤ 1463 → (t ≤ length s) × (sound (cut n (drop p s)) ≡ sound (cut (n - 1) (drop t s)))
+  good-turn f l t e h =
+      let b = found s p f l t e in
+      (rw (b .0) (b .2), rw (b .0) (ap (λ (k : ℕ). sound (cut k (drop p s))) one-more ∙ sound-step s p (b .2) (n - 1) (rw (b .1) at h)))
+
+  pub torn-turn : (r : ℕ) → blockAt s p ≡ block.Refused r → p ≤ length s → sound (cut n (drop p s)) ≡ false
+  torn-turn r e i = rw one-more (sound-torn s p (n - 1) i (missed s p r e .1))
+
+pub last-turn : (s : List ℕ) (p n : ℕ) → n ≤ 0 → p ≤ length s → sound (cut n (drop p s)) ≡ eqb p (length s)
+last-turn s p n h i = let z : n ≡ 0 = omega arith in rw z (sound-end s p i)
+
+-- a turn of the pass over all that there are, after k of them: by the block that was found
+pub record Turned (s : List ℕ) (p k : ℕ) (b : Bool) (l t : ℕ) : Type 0 where
+  pub inside : t ≤ length s
+  pub counts : k + 1 ≤ t
+  pub less : length s - t < length s - p
+  pub same : tallyFrom k b (cutAll (suc (length s - k)) (drop p s)) ≡ tallyFrom (k + 1) (b && l atMost 1463) (cutAll (suc (length s - (k + 1))) (drop t s))
+
+pub turned : (s : List ℕ) (p k : ℕ) (b : Bool) → k ≤ p → (f l t : ℕ) → blockAt s p ≡ block.At f l t → Turned s p k b l t
+turned s p k b h f l t e =
+    let i = found s p f l t e in
+    let ends = i .0 in
+    let within = i .2 in
+    record {
+      inside = omega arith;
+      counts = omega arith;
+      less = omega arith;
+      same = rw (i .0, i .1, ← turn (length s) k (omega arith)) (tally-step s p (i .2) (length s - k) k b);
+    }

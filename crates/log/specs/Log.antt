@@ -13,10 +13,14 @@ use Rattle.log.specs.declared.Log.{Log}
 use Rattle.log.specs.declared.Logged.{Logged}
 use Rattle.log.specs.declared.Logged.the-variants.{Refused, After}
 
--- no message exceeds 1,463 bytes
+-- the most bytes of a message, so that a packet can carry it
+abbrev pub longest : ℕ
+longest = 1463
+
+-- no message exceeds that
 unfoldable pub small : List (List ℕ) → Bool
 small [] = true
-small (m ∷ ms) = length m atMost 1463 && small ms
+small (m ∷ ms) = length m atMost longest && small ms
 
 -- whole blocks whose messages are small
 abbrev pub sound : Cut → Bool
@@ -29,7 +33,7 @@ blocksIn l s = cut (l .count) (take (l .used) s)
 abbrev pub messagesIn : Log → List ℕ → List (List ℕ)
 messagesIn l s = messagesOf (blocksIn l s)
 
--- at most 2^32-2 blocks, which end exactly at the mark inside the slice, and none exceeds 1,463
+-- at most 2^32-2 blocks, which end exactly at the mark inside the slice, and none is too long
 unfoldable pub hangs : Log → List ℕ → Bool
 hangs l s = l .count atMost 2 ^ 32 - 2 && l .used atMost length s && sound (blocksIn l s)
 

@@ -1,7 +1,7 @@
 pub mod Header
 pub mod Verdicts
 pub mod Taken
-pub mod Exactness
+pub mod Exact
 pub mod Carried
 pub mod Order
 pub mod Specimen

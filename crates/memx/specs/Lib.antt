@@ -1,4 +1,3 @@
 pub mod Packet
 pub mod Read
 pub mod Reading
-pub mod Writing

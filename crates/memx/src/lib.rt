@@ -1,4 +1,3 @@
-// MEMX-UDP 1.1: its packets, read and written.
+// MEMX-UDP 1.1: its packets, read.
 pub mod layout;
 pub mod reading;
-pub mod writing;

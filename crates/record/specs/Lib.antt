@@ -1,6 +1,2 @@
 pub mod Record
-pub mod Hearing
-pub mod Taking
-pub mod Steps
 pub mod Standing
-pub mod Asking

@@ -4,8 +4,8 @@ use Prim.Native.Nat.{ℕ, _+_, _-_, _^_}
 use mathlib.Core.List.{[], _∷_}
 use mathlib.Core.Bool.{Bool, true, false, not, _&&_}
 use Rattle.wire.specs.Checks.{_atMost_, Verdict, refused, taken, _else_, checked}
-use Rattle.wire.specs.Names.{nameBytes}
-use Rattle.wire.specs.Text.{blank, textThenSpaces}
+use Rattle.names.specs.Names.{nameBytes}
+use Rattle.text.specs.Text.{blank, textThenSpaces}
 use Rattle.wire.specs.declared.kinds.Name.{Name}
 use Rattle.record.specs.declared.Session.{Session}
 use Rattle.record.specs.declared.Session.the-variants.{Ufo, Memx}

@@ -1,7 +1,6 @@
 // Whether a record hangs together.
 use crate::Record;
 use crate::Session;
-use wire::text;
 ghost use mathlib.Core.Path.{_≡_};
 ghost use mathlib.Core.Bool.{_&&_};
 ghost use Prim.Native.Nat.{_+_};

@@ -1,12 +1,7 @@
 // The session record: what a receiver knows of one session.
-pub mod ask;
-mod deliver;
-mod hangs;
-mod hear;
+pub mod hangs;
 pub mod open;
 pub mod standing;
-pub mod take;
-mod tell;
 
 use wire::kinds::Name;
 use wire::kinds::Sequence;

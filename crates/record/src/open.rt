@@ -5,7 +5,6 @@ use wire::kinds::Name;
 use wire::kinds::Sequence;
 use wire::kinds::SessionId;
 use wire::refusal;
-use wire::text;
 ghost use mathlib.Core.Path.{_≡_};
 ghost use Rattle.record.specs.Record.{fresh, opening, openedOf};
 ghost use Rattle.record.specs.declared.Session.the-variants.{Memx};

@@ -2,31 +2,31 @@
 -- Assumes nothing.
 use Prim.Native.Nat.{ℕ, _≤_}
 use mathlib.Core.Path.{_≡_, refl, ap}
-use mathlib.Core.List.{List}
+use mathlib.Core.List.{List, [], _∷_, _++_, append-nil}
 use native.Mathlib.Omega.{arith}
-use lib.Ieee.{Float}
 use lib.ListN.{length, take, drop}
 use lib.Seq.{take-append-seam}
 use Rattle.wire.specs.Checks.{Verdict, refused, taken}
 use Rattle.wire.specs.Reply.{Reply, Settled}
+use Rattle.wire.specs.declared.kinds.Sequence.{Sequence}
 use Rattle.wire.specs.declared.output.Written.{Written}
-use Rattle.blocks.specs.Blocks.{frames}
+use Rattle.wire.specs.Fields.{Bytes}
+use Rattle.blocks.specs.Blocks.{frames, endAt}
 use Rattle.blocks.proofs.Frames.{short-frames}
 use Rattle.blocks.proofs.Cutting.{cut-frames}
-use Rattle.clock.specs.declared.sheet.Sheet.{Sheet}
-use Rattle.clock.specs.declared.patience.Patience.{Patience}
-use Rattle.log.specs.Log.{Kept, adding, addingMany, declaring, loggedOf, Entered}
-use Rattle.lend.specs.Answer.{answerReply, heartbeatReply, endPacketReply}
+use Rattle.ufo_up.specs.Up.{Message, login, request, unsequenced, heartbeat, logout, readUp, upstreamOf, upOf}
+use Rattle.ufo_up.proofs.UpInTurn.{InTurn, in-turn}
+use Rattle.log.specs.Log.{Kept, declaring, loggedOf, Entered}
 use Rattle.log.specs.declared.Logged.{Logged}
 use Rattle.log.proofs.Adding.{declared}
-use Rattle.record.specs.Taking.{Taking, taking, Answered}
-use Rattle.record.specs.Asking.{Wish, nothing, wait, request as wanted, asking, askedOf}
-use Rattle.record.specs.declared.take.Taken.{Taken}
-use Rattle.record.specs.declared.ask.Asked.{Asked}
-use Rattle.session.specs.Session.{State, declares, takes, asks, sent, logging, sending, delivering, wishing, step}
-use Rattle.session.specs.Caller.{withLog, written, withTaken, Requested, withAsked, ByContract}
-use Rattle.session.proofs.Invariant.{Vouches, Inv}
-use Rattle.session.proofs.Steps.{took-so, fits}
+use Rattle.taking.specs.Taking.{Taking, taking, takenOf, Answered}
+use Rattle.asking.specs.Asking.{Wish, nothing, wait, request as wanted, asking, askedOf}
+use Rattle.record.specs.declared.Record.{Record}
+use Rattle.taking.specs.declared.Taken.{Taken}
+use Rattle.session.specs.Session.{State, declares, answers, serves, takes, sent, toMessage, toEach, toPacket, logging, sending, delivering, saying, wishing, step}
+use Rattle.session.specs.Caller.{withLog, written, withTaken, onceTaken, onceAsked, LeavesAsked, LeavesAnswered, LeavesMessage, LeavesEach, LeavesServed, ByContract}
+use Rattle.session.proofs.Invariant.{Known, Inv}
+use Rattle.session.proofs.Steps.{took-so, fits, told-if-taken}
 
 -- what enters the log
 log-left : (s : State) (v : Verdict Kept) (r : Logged) (left : List ℕ) → Entered v (s .lent) r left → withLog s r left ≡ logging s v
@@ -45,36 +45,63 @@ unfolding sent
 datagram-left (refused n) out r left e = rw (e .answer)
 datagram-left (taken d) out r left e = rw (e .answer, e .bytes, take-append-seam d (drop (length d) out))
 
+-- what a server sends that is handed a datagram: to each request, to each message, and so to the whole packet
+answer-left : (s : State) (room : ℕ) (first : Sequence) (count : ℕ) (left : List (List ℕ) → Type 0) → left (toMessage s room (request (first .0) count)) → LeavesAnswered s room first count left
+answer-left s room first count left l κs a x e g p = rw (datagram-left _ _ x _ (rw (g .0, g .1, g .2, g .3, g .4) at p)) l
+
+message-left : (s : State) (room next : ℕ) (more : List (List ℕ)) (on : ℕ → (List (List ℕ) → Type 0) → Type 0) → ((left : List (List ℕ) → Type 0) → left more → on next left)
+    → (m : Message) (left : List (List ℕ) → Type 0) → left (toMessage s room m ++ more) → LeavesMessage s room (upOf next (taken m)) on left
+message-left s room next more on goes (login user password session) left l = goes left l
+message-left s room next more on goes (request first count) left l =
+    answer-left s room (record { 0 = first }) count (λ answer. on next (λ answers. left (answer ++ answers))) (goes (λ answers. left (toMessage s room (request first count) ++ answers)) l)
+message-left s room next more on goes (unsequenced bytes) left l = goes left l
+message-left s room next more on goes heartbeat left l = goes left l
+message-left s room next more on goes logout left l = goes left l
+
+each-left : (s : State) (room : ℕ) (d : List ℕ) (ms : List Message) (place : ℕ) (left : List (List ℕ) → Type 0)
+    → InTurn d place ms → left (toEach s room ms) → LeavesEach s room d (length ms) place left
+each-left s room d [] place left t l = l
+each-left s room d (m ∷ ms) place left t l =
+    λ κs a x e g p. rw (p, g .0, g .1, t .0) (message-left s room (endAt d place) (toEach s room ms) (LeavesEach s room d (length ms)) (λ then. each-left s room d ms (endAt d place) then (t .1)) m left l)
+
+packet-left : (s : State) (room : ℕ) (d : List ℕ) → Bytes d → LeavesServed s room d (upstreamOf (readUp d)) (λ answers. sending s answers ≡ step s (serves d room))
+unfolding toPacket
+packet-left s room d b = by (readUp d) refl where
+  by : (v : Verdict (List Message)) → readUp d ≡ v → LeavesServed s room d (upstreamOf v) (λ answers. sending s answers ≡ sending s (toPacket s room v))
+  by (refused n) e = refl
+  by (taken ms) e = each-left s room d ms 0 _ (in-turn d b ms e) refl
+
 -- what the recorder delivers
-delivery-left : (s : State) (i : Inv s) (d : List ℕ) → Vouches s d → (out : List ℕ) (r : Taken) (left : List ℕ)
-    → Answered (taking (s .kept) d (length out)) out r left → withTaken s r left ≡ step s (takes d (length out))
-delivery-left s i d g out r left e = by (taking (s .kept) d (length out)) refl e where
-  by : (v : Verdict Taking) → taking (s .kept) d (length out) ≡ v → Answered v out r left → withTaken s r left ≡ delivering s v
-  by (refused n) q a = rw (a .answer)
-  by (taken t) q a =
+pub delivery-left : (s : State) (i : Inv s) (d : List ℕ) → Known s d → (room : ℕ) (out : List ℕ) (r : Taken) (left : List ℕ) (kept : Record)
+    → Answered (taking (s .kept) d room) out r left → kept ≡ onceTaken (s .kept) (takenOf (taking (s .kept) d room)) → withTaken s r left kept ≡ step s (takes d room)
+delivery-left s i d known room out r left kept e k = by (taking (s .kept) d room) refl e k where
+  by : (v : Verdict Taking) → taking (s .kept) d room ≡ v → Answered v out r left → kept ≡ onceTaken (s .kept) (takenOf v) → withTaken s r left kept ≡ delivering s v
+  by (refused n) q a k = rw (a .answer, k, append-nil)
+  by (taken t) q a k =
       let ms : List (List ℕ) = t .delivered in
-      let same = took-so s i d g (length out) t q in
+      let g = told-if-taken s i d known room t q in
+      let same = took-so s i d g room t q in
       let z : length (frames ms) ≤ 1465 = rw same (fits s i d g) in
-      rw (a .answer, a .bytes, take-append-seam (frames ms) (drop (length (frames ms)) out), cut-frames ms (short-frames ms (omega arith)))
+      rw (a .answer, a .bytes, k, take-append-seam (frames ms) (drop (length (frames ms)) out), cut-frames ms (short-frames ms (omega arith)))
 
 -- what the recorder asks
-request-left : (s : State) (sheet : Sheet) (rule : Patience) (elapsed : Float) (a : Asked) (out : List ℕ) (r : Written) (left : List ℕ)
-    → a ≡ askedOf (asking (s .kept) sheet rule elapsed) → Requested a out r left → withAsked s a r left ≡ step s (asks sheet rule elapsed (length out))
-request-left s sheet rule elapsed a out r left e q = rw e (by (asking (s .kept) sheet rule elapsed) (rw e at q)) where
-  by : (v : Verdict Wish) → Requested (askedOf v) out r left → withAsked s (askedOf v) r left ≡ wishing s (length out) v
-  by (refused n) p = refl
-  by (taken nothing) p = refl
-  by (taken wait) p = refl
-  by (taken (wanted first count after)) p = rw (datagram-left _ out r left p)
+pub request-left : (s : State) (room : ℕ) (v : Verdict Wish) (kept : Record) → kept ≡ onceAsked (s .kept) (askedOf v) → LeavesAsked room (askedOf v) (λ said. saying s kept said ≡ wishing s room v)
+request-left s room (refused n) kept k = rw (k, append-nil)
+request-left s room (taken nothing) kept k = rw (k, append-nil)
+request-left s room (taken wait) kept k = rw (k, append-nil)
+request-left s room (taken (wanted first count after)) kept k = λ κs a x e g p. rw (k, datagram-left _ _ x _ (rw (g .0, g .1, g .2) at p))
 
 pub by-contract : (s : State) → Inv s → ByContract s
 by-contract s i = record {
-  add = λ message. log-left s (adding (s .log) (s .lent) message);
-  addMany = λ blocks. log-left s (addingMany (s .log) (s .lent) blocks);
-  declareEnd = end-left s;
-  heartbeat = λ out r left e. ap (sending s) (datagram-left (heartbeatReply (s .log) (s .lent) (length out)) out r left e);
-  endPacket = λ out r left e. ap (sending s) (datagram-left (endPacketReply (s .log) (s .lent) (length out)) out r left e);
-  answer = λ first count out. datagram-left (answerReply (s .log) (s .lent) first count (length out)) out;
-  take = λ datagram out r left m. delivery-left s i datagram (i .line datagram m) out r left;
-  ask = request-left s;
+  add = λ message κs a x e g p. log-left s _ x _ (rw (g .0, g .1, g .2) at p);
+  addMany = λ blocks κs a x e g p. log-left s _ x _ (rw (g .0, g .1, g .2) at p);
+  declareEnd = λ κs a x e g p. end-left s x (rw (g .0, g .1) at p);
+  heartbeat = λ room κs a x e g p. ap (sending s) (datagram-left _ _ x _ (rw (g .0, g .1, g .2) at p));
+  endPacket = λ room κs a x e g p. ap (sending s) (datagram-left _ _ x _ (rw (g .0, g .1, g .2) at p));
+  answer = λ first count room. answer-left s room first count (λ answer. sending s answer ≡ step s (answers (first .0) count room)) refl;
+  accept = λ session next room κs a x e g p. ap (sending s) (datagram-left _ _ x _ (rw (g .0, g .1, g .2) at p));
+  reject = λ reason room κs a x e g p. ap (sending s) (datagram-left _ _ x _ (rw (g .0, g .1) at p));
+  serve = λ datagram room b κs a x e g p. rw (p, g) (packet-left s room datagram b);
+  take = λ datagram room m κs a x e g p. let q = rw (g .0, g .1, g .2) at p in delivery-left s i datagram (i .line datagram m) room _ x _ _ q (rw (q .answer));
+  ask = λ sheet rule elapsed room κs a x e g p. rw (p, g .0, g .1, g .2, g .3) (request-left s room (asking (s .kept) sheet rule elapsed) _ refl);
 }

@@ -7,11 +7,11 @@ use mathlib.Core.Bool.{true, or-true}
 use lib.ListN.{length}
 use Rattle.wire.specs.Checks.{taken}
 use Rattle.ufo.specs.Down as ufo
-use Rattle.record.specs.Hearing.{end}
+use Rattle.hearing.specs.Hearing.{end}
 use Rattle.session.specs.Session.{State, logged, takes, step, Run}
 use Rattle.session.specs.Promise.{Outcome}
 use Rattle.session.proofs.Invariant.{Vouches, Inv}
-use Rattle.session.proofs.Steps.{taken-so, good, along}
+use Rattle.session.proofs.Steps.{taken-so, told, good, along}
 use Rattle.session.proofs.Standing.{outcome}
 use Rattle.session.proofs.Fetching.{same-report}
 
@@ -29,6 +29,7 @@ module _ (datagram : List ℕ) (total : ℕ) (e : ufo.read datagram ≡ taken (u
       let k = along r (g .inv) in
       let n = k .later .down datagram (g .later .down datagram m) in
       let j = k .inv in
-      let f = rw (reports t (j .line datagram n)) at (j .line datagram n .vouched .genuine .final) in
+      let v = told t j datagram (j .line datagram n) (ufo.end total) (end total) e refl in
+      let f = rw (reports t v) at (v .vouched .genuine .final) in
       let o = f refl in
-      (o .0, sym (o .1), outcome t j (k .later .over (marks s i (i .line datagram m) room h)))
+      (o .0, sym (o .1), outcome t j (k .later .over (marks s i (told s i datagram (i .line datagram m) (ufo.end total) (end total) e refl) room h)))

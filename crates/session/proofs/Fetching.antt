@@ -8,16 +8,16 @@ use lib.ListN.{length}
 use Rattle.wire.specs.Checks.{taken}
 use Rattle.ufo.specs.Down as ufo
 use Rattle.lend.specs.Answer.{answerTo}
-use Rattle.record.specs.Hearing.{Report, ofUfo}
+use Rattle.hearing.specs.Hearing.{Report, ofUfo}
 use Rattle.record.specs.Standing.{missing, standing}
-use Rattle.record.proofs.Asks.{Requests, requests}
+use Rattle.asking.proofs.Asks.{Requests, requests}
 use Rattle.record.proofs.Complete.{missing-if, standing-means}
 use Rattle.session.specs.Session.{State, logged, takes, asks, step}
 use Rattle.session.specs.Promise.{Delivered, Due, made, Exchange, Exchanges, none, more}
 use Rattle.session.proofs.Reports.{firstOf, carried}
 use Rattle.session.proofs.Line.{answers, answer-gives}
 use Rattle.session.proofs.Invariant.{Vouches, Inv, Good, chain}
-use Rattle.session.proofs.Steps.{taken-so, brought, good, along}
+use Rattle.session.proofs.Steps.{taken-so, brought, told, good, along}
 use Rattle.session.proofs.Deliveries.{delivered}
 
 -- what is due is the first number that is missing
@@ -56,7 +56,7 @@ exchanged s t i x =
     let g₄ : Good w (step w (takes d (x .roomOut))) = good w (takes d (x .roomOut)) (x .arrives) k in
     let p = answers (u .log) (u .lent) (j .hung) (x .roomDown) d f (x .count) (x .answer) in
     let v = answer-gives (u .log) (u .lent) (j .hung) (x .roomDown) d f (x .count) (x .answer) in
-    let l = k .line d (x .arrives) in
+    let l = told w k d (k .line d (x .arrives)) (answerTo (u .log .ended) (logged u) f (x .count)) (p .report) (v .reads) (p .vouched .heard) in
     let same : l .report ≡ p .report =
     same-report d (l .packet) (answerTo (u .log .ended) (logged u) f (x .count)) (l .report) (p .report) (l .gives .reads) (v .reads) (l .vouched .heard) (p .vouched .heard) in
     let low : f ≤ length (logged u) = omega (arith, a .from, a .lacks, i .hold .known, g₂ .later .log) in

@@ -7,8 +7,7 @@ use mathlib.Core.Bool.{Bool, true}
 use native.Mathlib.Omega.{arith}
 use lib.ListN.{length, drop, length-append, length-drop}
 use lib.Seq.{take-append-le, drop-append-le}
-use Rattle.record.specs.Hearing.{Report}
-use Rattle.record.specs.Taking.{topOf}
+use Rattle.hearing.specs.Hearing.{Report, topOf}
 use Rattle.record.specs.declared.Record.{Record}
 use Rattle.session.proofs.Reports.{firstOf, carried, Genuine, Hold}
 

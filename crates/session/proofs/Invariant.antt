@@ -1,17 +1,17 @@
 -- What holds of every state: the log hangs together, the record and the deliveries tell nothing false of it, and it vouches for
--- every datagram that was sent. It holds at the start.
+-- every datagram that was sent and is no answer to a login. It holds at the start.
 -- Assumes nothing.
 use Prim.Native.Nat.{ℕ, _≤_}
 use mathlib.Core.Path.{_≡_, refl}
 use mathlib.Core.List.{List, [], _∷_, List·Memᴰ, List·Memᴰ·not-nil}
-use mathlib.Core.Bool.{true, false, not, false≢true}
+use mathlib.Core.Bool.{Bool, true, false, not, false≢true}
 use native.Mathlib.Omega.{arith}
 use borrow.Author.Tests.{le-leb}
 use lib.ListN.{length}
 use Rattle.wire.specs.Fields.{Bytes}
 use Rattle.wire.specs.Checks.{taken, _else_}
-use Rattle.wire.specs.Names.{nameBytes}
-use Rattle.wire.specs.Text.{blank, textThenSpaces}
+use Rattle.names.specs.Names.{nameBytes}
+use Rattle.text.specs.Text.{blank, textThenSpaces}
 use Rattle.wire.specs.declared.kinds.Name.{Name}
 use Rattle.wire.proofs.Checks.{all-passed}
 use Rattle.blocks.specs.Blocks.{cut}
@@ -20,6 +20,7 @@ use Rattle.record.specs.Record.{fresh, opening}
 use Rattle.record.specs.declared.Record.{Record}
 use Rattle.record.specs.declared.Session.the-variants.{Ufo}
 use Rattle.session.specs.Session.{State, logged, begin}
+use Rattle.session.specs.Promise.{LoginAnswer}
 use Rattle.session.proofs.Reports.{Hold}
 use Rattle.session.proofs.Logs.{Hung}
 use Rattle.session.proofs.Line.{Wrote}
@@ -29,11 +30,19 @@ use Rattle.session.proofs.Recording.{Named}
 abbrev pub Vouches : State → List ℕ → Type 0
 Vouches s d = Wrote (logged s) (s .log .ended) d
 
+-- or it answers a login
+pub data Sent (ms : List (List ℕ)) (over : Bool) (d : List ℕ) : Type 0 where
+  tells : Wrote ms over d → Sent ms over d
+  greets : LoginAnswer d → Sent ms over d
+
+abbrev pub Known : State → List ℕ → Type 0
+Known s d = Sent (logged s) (s .log .ended) d
+
 pub record Inv (s : State) : Type 0 where
   pub hung : Hung (s .log) (s .lent)
   pub named : Named (s .kept)
   pub hold : Hold (logged s) (s .log .ended) (s .kept) (s .deliveries)
-  pub line : (d : List ℕ) → List·Memᴰ d (s .down) → Vouches s d
+  pub line : (d : List ℕ) → List·Memᴰ d (s .down) → Known s d
 
 -- nothing goes back: not N, nor T, nor the end, nor the log, nor what was sent
 pub record Later (s t : State) : Type 0 where

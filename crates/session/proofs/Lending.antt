@@ -13,7 +13,7 @@ use Rattle.ufo.specs.Down as ufo
 use Rattle.log.specs.Log.{small}
 use Rattle.lend.specs.Answer.{greatest, from, goes, packed, heartbeatOf, endOf, answerTo}
 use Rattle.lend.proofs.Answering.{Most, most, one-goes}
-use Rattle.record.specs.Hearing.{Report, messages, end, ofUfo}
+use Rattle.hearing.specs.Hearing.{Report, messages, end, ofUfo}
 use Rattle.session.proofs.Reports.{firstOf, carried, Genuine}
 
 -- a packet that gives a genuine report

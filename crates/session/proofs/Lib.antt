@@ -4,6 +4,7 @@ pub mod Growing
 pub mod Lending
 pub mod Logs
 pub mod Line
+pub mod Logins
 pub mod Recording
 pub mod Invariant
 pub mod Steps
@@ -12,7 +13,9 @@ pub mod Standing
 pub mod Fetching
 pub mod Ending
 pub mod Serving
+pub mod Waiting
 pub mod Filling
 pub mod Contracts
+pub mod InPlace
 pub mod Specimen
 pub mod Claims

@@ -15,7 +15,7 @@ use Rattle.lend.specs.Answer.{answerTo, answerable, answerReply, heartbeatReply
 use Rattle.log.specs.declared.Log.{Log}
 use Rattle.log.proofs.Hanging.{hanging}
 use Rattle.lend.proofs.Given.{Gives, answered, beaten, ended}
-use Rattle.record.specs.Hearing.{Report}
+use Rattle.hearing.specs.Hearing.{Report}
 use Rattle.session.proofs.Lending.{Vouched, beat-vouched, end-vouched, Answer, answer}
 use Rattle.session.proofs.Logs.{Hung}
 

@@ -4,7 +4,7 @@ use Prim.Native.Nat.{ℕ}
 use mathlib.Core.Path.{_≡_, sym, _∙_}
 use mathlib.Core.List.{List, [], _∷_, _++_, append-nil}
 use mathlib.Core.Bool.{true, false≢true}
-use lib.ListN.{length, take}
+use lib.ListN.{length}
 use Rattle.wire.specs.Fields.{Bytes}
 use Rattle.wire.specs.Checks.{taken, _else_}
 use Rattle.wire.proofs.Checks.{all-passed}

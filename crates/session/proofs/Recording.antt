@@ -13,13 +13,13 @@ use Rattle.blocks.proofs.Frames.{frames-none}
 use Rattle.ufo.specs.Down as ufo
 use Rattle.ufo.proofs.DownLaid.{length-laid}
 use Rattle.record.specs.Record.{lawful, hangs}
-use Rattle.record.specs.Hearing.{Report, ofUfo, hear}
-use Rattle.record.specs.Taking.{delivered, Taking, outcome, reporting, taking}
+use Rattle.hearing.specs.Hearing.{Report, ofUfo, hear}
+use Rattle.taking.specs.Taking.{delivered, Taking, outcome, reporting, taking}
 use Rattle.record.specs.declared.Record.{Record}
 use Rattle.record.specs.declared.Session.the-variants.{Ufo}
 use Rattle.record.proofs.Hanging.{hangs-so}
-use Rattle.record.proofs.Hearing.{hears-ufo}
-use Rattle.record.proofs.Reports.{reported, reports}
+use Rattle.hearing.proofs.Hearing.{hears-ufo}
+use Rattle.taking.proofs.Reports.{reported, reports}
 use Rattle.session.proofs.Reports.{carried, Hold, Brings, brings}
 use Rattle.session.proofs.Line.{Wrote}
 

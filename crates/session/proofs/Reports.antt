@@ -13,8 +13,8 @@ use lib.Dec.{leb}
 use Rattle.wire.specs.Checks.{if_then_else_, _atMost_}
 use Rattle.blocks.specs.Blocks.{frames}
 use Rattle.blocks.proofs.Frames.{frames-none, frames-drop}
-use Rattle.record.specs.Hearing.{Report, messages, news, end}
-use Rattle.record.specs.Taking.{topOf, isEnd, contradicts, delivered, told}
+use Rattle.hearing.specs.Hearing.{Report, messages, news, end, topOf, isEnd}
+use Rattle.taking.specs.Taking.{contradicts, delivered, told}
 use Rattle.record.specs.declared.Record.{Record}
 use Rattle.session.proofs.Pieces.{joined, rest}
 

@@ -14,35 +14,38 @@ use Rattle.blocks.specs.Blocks.{frame}
 use Rattle.blocks.proofs.Frames.{length-frame}
 use Rattle.ufo.specs.Down as ufo
 use Rattle.ufo_up.specs.Up.{Message, request, writeMessage, FitMessage, readUp}
-use Rattle.ufo_up.specs.WriteUp.{reply}
-use Rattle.ufo_up.proofs.UpExact.{read-one}
+use Rattle.ufo_up_write.specs.WriteUp.{reply}
+use Rattle.ufo_up.proofs.Exact.{read-one}
 use Rattle.ufo_up.proofs.UpExactOne.{length-message}
-use Rattle.ufo_up.proofs.UpReplies.{reply-fit}
+use Rattle.ufo_up_write.proofs.UpReplies.{reply-fit}
 use Rattle.clock.specs.Patience.{waitOver}
 use Rattle.clock.specs.declared.sheet.Sheet.{Sheet}
 use Rattle.clock.specs.declared.patience.Patience.{Patience}
 use Rattle.lend.specs.Answer.{answerTo, answerReply}
 use Rattle.lend.proofs.Answering.{few-in}
 use Rattle.record.specs.Standing.{missing, standing}
-use Rattle.record.specs.Asking.{askedNow, requestOf}
-use Rattle.record.proofs.Asks.{asks-now}
+use Rattle.asking.specs.Asking.{request as wanted, askedNow, requestOf, asking}
+use Rattle.asking.proofs.Asks.{asks-now}
 use Rattle.record.proofs.Complete.{standing-means}
 use Rattle.session.specs.Session.{State, logged, serves, takes, asks, sent, toMessage, toEach, toPacket, step, Run, stop, then}
-use Rattle.session.specs.Promise.{Due, made, Asked, Answered, Exchange}
+use Rattle.session.specs.Promise.{Due, made, Asked, Answered, Exchange, Under}
 use Rattle.session.proofs.Line.{answered-so}
 use Rattle.session.proofs.Invariant.{Inv, Good}
 use Rattle.session.proofs.Steps.{hung-record, good, along}
 use Rattle.session.proofs.Fetching.{due-asks}
 
 -- something is missing: a request for it is due, unless one was made from there and the wait is not over
-pub due-so : (s : State) → Inv s → (first last : ℕ) → standing (s .kept) ≡ taken (missing first last)
-    → (sheet : Sheet) (rule : Patience) (elapsed : Float) (late : Bool) → waitOver sheet rule elapsed ≡ taken late → ((s .kept .asked .0 ≡ first) → ⊥) ⊎ (late ≡ true)
-    → Due s first (min (last - first + 1) 65535)
-unfolding requestOf
-due-so s i first last e sheet rule elapsed late v d =
-    let m = standing-means (s .kept) (missing first last) e in
-    let w = asks-now (s .kept) sheet rule elapsed (hung-record s i) late v (m .2) (rw (m .0) at d) in
-    record { sheet = sheet; rule = rule; elapsed = elapsed; after = askedNow (s .kept); wish = rw (m .0, m .1) w }
+module _ (s : State) (i : Inv s) (first last : ℕ) (e : standing (s .kept) ≡ taken (missing first last)) (sheet : Sheet) (rule : Patience) (elapsed : Float) (late : Bool)
+    (v : waitOver sheet rule elapsed ≡ taken late) (d : ((s .kept .asked .0 ≡ first) → ⊥) ⊎ (late ≡ true)) where
+  pub wish-so : asking (s .kept) sheet rule elapsed ≡ taken (wanted first (min (last - first + 1) 65535) (askedNow (s .kept)))
+  unfolding requestOf
+  wish-so =
+      let m = standing-means (s .kept) (missing first last) e in
+      let w = asks-now (s .kept) sheet rule elapsed (hung-record s i) late v (m .2) (rw (m .0) at d) in
+      rw (m .0, m .1) w
+
+  pub due-so : Due s first (min (last - first + 1) 65535)
+  due-so = record { sheet = sheet; rule = rule; elapsed = elapsed; after = askedNow (s .kept); wish = wish-so }
 
 -- an answer to one of a packet's requests is among the answers to the packet
 in-turn : (u : State) (room first count : ℕ) (d : List ℕ) → answerReply (u .log) (u .lent) first count room ≡ taken d → (ms : List Message) → List·Memᴰ (request first count) ms → List·Memᴰ d (toEach u room ms)
@@ -80,7 +83,7 @@ module _ (s u : State) (i : Inv s) (first count : ℕ) (due : Due s first count)
       record { answer = d; laid = l; sent = rw e (Memᴰ·append-right (u .down) (in-turn u room first count d l ms m)) }
 
 -- where the line carries the request and its answer, the exchange is had
-pub exchange : (s : State) → Inv s → (first count : ℕ) → Due s first count → (t : State) × Exchange s t
+pub exchange : (s : State) → Inv s → (first count : ℕ) (due : Due s first count) → (t : State) × (x : Exchange s t) × Under (due .sheet) (due .rule) (due .elapsed) x
 exchange s i first count due =
     let u : State = made s due 1472 in
     let a : Asked u first count = asked s u i first count due 1472 stop (omega arith) in
@@ -105,4 +108,5 @@ exchange s i first count due =
         enough = omega arith;
         left = refl;
       },
+      (refl, refl, refl),
     )

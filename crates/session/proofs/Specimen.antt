@@ -1,9 +1,10 @@
--- A run, worked out byte by byte, so that no claim is empty. Three messages; the third comes first, the first comes twice, the second
--- is lost; the end is heard with two still missing; one request and its answer make the record complete.
+-- A run, worked out byte by byte, so that no claim is empty. A login is accepted, which is not for the record. Three messages; the third
+-- comes first, the first comes twice, the second is lost; the end is heard with two still missing; one request and its answer make the
+-- record complete.
 -- Assumes nothing.
 use Prim.Native.Nat.{ℕ}
 use mathlib.Core.Path.{_≡_, refl}
-use mathlib.Core.List.{List, [], _∷_, List·Memᴰ, List·Memᴰ·head, List·Memᴰ·tail}
+use mathlib.Core.List.{List, [], _∷_, List·Memᴰ, List·Memᴰ·head as here, List·Memᴰ·tail as there}
 use mathlib.Core.Bool.{Bool, true, false, _&&_}
 use native.Mathlib.Omega.{arith}
 use borrow.Author.Tests.{leb-true}
@@ -12,13 +13,14 @@ use lib.Ieee.{round, le}
 use lib.ListN.{replicate}
 use Rattle.wire.specs.Fields.{be, bytesOf, Bytes}
 use Rattle.wire.specs.Checks.{_atMost_, taken}
-use Rattle.wire.specs.Names.{nameOf}
-use Rattle.wire.specs.Text.{letterOrDigit, blank, textThenSpaces}
+use Rattle.names.specs.Names.{nameOf}
+use Rattle.text.specs.Text.{letterOrDigit, blank, textThenSpaces}
 use Rattle.wire.specs.declared.kinds.Name.{Name}
 use Rattle.blocks.specs.Blocks.{frames, cut, cutFull}
-use Rattle.ufo.specs.Down.{readS, readE, read}
+use Rattle.ufo.specs.Down.{readA, readS, readE, read}
+use Rattle.ufo_write.specs.WriteDown.{acceptReply}
 use Rattle.ufo_up.specs.Up.{request, readT, readMessage, readEach, readUp}
-use Rattle.ufo_up.specs.WriteUp.{verdict, reply}
+use Rattle.ufo_up_write.specs.WriteUp.{verdict, reply}
 use Rattle.wire.proofs.Width.{bytes-cons}
 use Rattle.clock.specs.Milliseconds.{whole}
 use Rattle.clock.specs.declared.sheet.Sheet.{Sheet}
@@ -27,18 +29,18 @@ use Rattle.log.specs.Log as log
 use Rattle.lend.specs.Answer.{greatest, answerTo, answerReply, endPacketReply}
 use Rattle.wire.proofs.Tests.{and-left, and-right}
 use Rattle.record.specs.Record.{hangs, fresh}
-use Rattle.record.specs.Hearing.{hear}
-use Rattle.record.specs.Taking.{reporting, taking}
+use Rattle.hearing.specs.Hearing.{hear}
+use Rattle.taking.specs.Taking.{reporting, taking}
 use Rattle.record.specs.Standing.{complete, missing, standing}
-use Rattle.record.specs.Asking.{request as wanted, requestOf, wish, asking}
+use Rattle.asking.specs.Asking.{request as wanted, requestOf, wish, asking}
 use Rattle.record.specs.declared.Record.{Record}
 use Rattle.record.specs.declared.Session.the-variants.{Ufo}
-use Rattle.session.specs.Session.{State, logged, begin, addsMany, declares, ends, answers, serves, takes, sent, toPacket, saying, step, Run, stop, then, Reached}
+use Rattle.session.specs.Session.{State, logged, begin, addsMany, declares, ends, answers, accepts, serves, takes, sent, toPacket, saying, step, Run, stop, then, Reached}
 use Rattle.session.specs.Promise.{Due, made, Exchange}
 
 -- what is unfolded to work it out
 worked-out : Unit {0}
-unfolding be bytesOf letterOrDigit blank textThenSpaces frames cut cutFull read readS readE readUp readEach readMessage readT reply verdict log.small log.hangs log.cutAll log.addingMany log.declaring greatest answerTo answerReply endPacketReply hangs hear reporting taking standing sent toPacket
+unfolding be bytesOf letterOrDigit blank textThenSpaces frames cut cutFull read readA readS readE readUp readEach readMessage readT reply verdict log.small log.hangs log.cutAll log.addingMany log.declaring greatest answerTo answerReply endPacketReply acceptReply hangs hear reporting taking standing sent toPacket
 worked-out = tt
 
 -- a list of numbers is one of bytes, by a test
@@ -69,7 +71,10 @@ ok = 79 ∷ 75 ∷ 33 ∷ []
 abbrev blocks : List ℕ
 blocks = 0 ∷ 2 ∷ 72 ∷ 73 ∷ 0 ∷ 0 ∷ 0 ∷ 3 ∷ 79 ∷ 75 ∷ 33 ∷ []
 
--- the datagrams: each message by itself, and the end; then the request, and its answer
+-- the datagrams: the accepted login; each message by itself, and the end; then the request, and its answer
+abbrev welcome : List ℕ
+welcome = 65 ∷ 56 ∷ 56 ∷ 52 ∷ 49 ∷ 32 ∷ 32 ∷ 32 ∷ 32 ∷ 32 ∷ 32 ∷ 0 ∷ 0 ∷ 0 ∷ 1 ∷ []
+
 abbrev one : List ℕ
 one = 83 ∷ 0 ∷ 0 ∷ 0 ∷ 1 ∷ 0 ∷ 1 ∷ 0 ∷ 2 ∷ 72 ∷ 73 ∷ []
 
@@ -86,7 +91,7 @@ abbrev both : List ℕ
 both = 83 ∷ 0 ∷ 0 ∷ 0 ∷ 2 ∷ 0 ∷ 2 ∷ 0 ∷ 0 ∷ 0 ∷ 3 ∷ 79 ∷ 75 ∷ 33 ∷ []
 
 s₁ : State
-s₁ = step (begin lent (fresh (Ufo session))) (addsMany blocks)
+s₁ = step (step (step (begin lent (fresh (Ufo session))) (accepts session 1 1472)) (takes welcome 1472)) (addsMany blocks)
 
 s₂ : State
 s₂ = step (step (step s₁ (answers 1 1 1472)) (answers 2 1 1472)) (answers 3 1 1472)
@@ -108,17 +113,17 @@ reached = record {
   session = session;
   kept = fresh (Ufo session);
   opened = refl;
-  run = then r₄ (takes over 1472) (List·Memᴰ·tail (List·Memᴰ·tail (List·Memᴰ·tail (List·Memᴰ·head refl))));
+  run = then r₄ (takes over 1472) (there (there (there (there (here refl)))));
 }
   where
     r₁ : Run (begin lent (fresh (Ufo session))) s₁
-    r₁ = then stop (addsMany blocks) (bytes-so blocks refl)
+    r₁ = then (then (then stop (accepts session 1 1472) tt) (takes welcome 1472) (here refl)) (addsMany blocks) (bytes-so blocks refl)
 
     r₂ : Run (begin lent (fresh (Ufo session))) s₂
     r₂ = then (then (then r₁ (answers 1 1 1472) tt) (answers 2 1 1472) tt) (answers 3 1 1472) tt
 
     r₃ : Run (begin lent (fresh (Ufo session))) s₃
-    r₃ = then (then (then r₂ (takes three 1472) (List·Memᴰ·tail (List·Memᴰ·tail (List·Memᴰ·head refl)))) (takes one 1472) (List·Memᴰ·head refl)) (takes one 1472) (List·Memᴰ·head refl)
+    r₃ = then (then (then r₂ (takes three 1472) (there (there (there (here refl))))) (takes one 1472) (there (here refl))) (takes one 1472) (there (here refl))
 
     r₄ : Run (begin lent (fresh (Ufo session))) s₄
     r₄ = then (then r₃ declares tt) (ends 1472) tt
@@ -169,7 +174,7 @@ packed = refl
 
 on-the-line : List·Memᴰ asking-two (asked .up) × List·Memᴰ both (answered .down)
 unfolding worked-out s₁ s₂ s₃ s₄ s asked answered
-on-the-line = (List·Memᴰ·head refl, List·Memᴰ·tail (List·Memᴰ·tail (List·Memᴰ·tail (List·Memᴰ·tail (List·Memᴰ·head refl)))))
+on-the-line = (here refl, there (there (there (there (there (here refl))))))
 
 pub exchanged : Exchange s t
 unfolding answered t

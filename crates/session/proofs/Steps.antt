@@ -9,22 +9,27 @@ use native.Mathlib.Omega.{arith}
 use lib.ListN.{length}
 use Rattle.wire.specs.Checks.{Verdict, refused, taken}
 use Rattle.wire.specs.Reply.{Reply}
+use Rattle.wire.proofs.Checks.{not-both}
 use Rattle.blocks.specs.Blocks.{frames}
+use Rattle.ufo.specs.Down as ufo
 use Rattle.ufo_up.specs.Up.{Message, login, request, unsequenced, heartbeat, logout}
 use Rattle.log.specs.Log.{Kept}
 use Rattle.lend.proofs.Answering.{few-in}
 use Rattle.record.specs.Record.{hangs}
-use Rattle.record.specs.Taking.{delivered, Taking, outcome, taking}
-use Rattle.record.specs.Asking.{Wish, nothing, wait, request as wanted, askedNow}
+use Rattle.hearing.specs.Hearing.{Report, ofUfo}
+use Rattle.taking.specs.Taking.{delivered, Taking, outcome, taking}
+use Rattle.asking.specs.Asking.{Wish, nothing, wait, request as wanted, askedNow}
 use Rattle.record.specs.declared.Record.{Record}
-use Rattle.record.proofs.Asks.{requests}
-use Rattle.session.specs.Session.{State, logged, Act, adds, addsMany, declares, beats, ends, answers, serves, takes, asks, says, Allowed, sent, toMessage, toEach, toPacket, logging, sending, delivering, saying, wishing, step, Run, stop, then, Reached}
+use Rattle.asking.proofs.Asks.{requests}
+use Rattle.session.specs.Session.{State, logged, Act, adds, addsMany, declares, beats, ends, answers, accepts, rejects, serves, takes, asks, says, Allowed, sent, toMessage, toEach, toPacket, logging, sending, delivering, saying, wishing, step, Run, stop, then, Reached}
+use Rattle.session.specs.Promise.{LoginAnswer, Received, took, passed}
 use Rattle.session.proofs.Reports.{Brings}
 use Rattle.session.proofs.Growing.{longer, stays, still}
 use Rattle.session.proofs.Logs.{Leaves, adding-leaves, adding-many-leaves, declaring-leaves}
 use Rattle.session.proofs.Line.{lends}
+use Rattle.session.proofs.Logins.{accept-answers, reject-answers, reports-none, refuses-login}
 use Rattle.session.proofs.Recording as recording
-use Rattle.session.proofs.Invariant.{Vouches, Inv, Good, stays-put, chain, begins}
+use Rattle.session.proofs.Invariant.{Vouches, Known, tells, greets, Inv, Good, stays-put, chain, begins}
 
 module _ (s : State) (i : Inv s) where
   -- what enters the log
@@ -39,7 +44,7 @@ module _ (s : State) (i : Inv s) where
           hung = l .hung;
           named = i .named;
           hold = still (logged s) (s .log .ended) (logged t) (t .log .ended) (l .grows) (s .kept) (s .deliveries) (i .hold);
-          line = λ d m. again t l d (i .line d m);
+          line = λ d m. still-known t l d (i .line d m);
         };
         later = record { next = omega arith; top = omega arith; over = λ e. e; log = a; down = λ d m. m; up = λ d m. m };
       }
@@ -55,37 +60,41 @@ module _ (s : State) (i : Inv s) where
         };
       }
 
+      still-known : (t : State) (l : Leaves (s .log) (s .lent) (record { log = t .log; bytes = t .lent })) (d : List ℕ) → Known s d → Known t d
+      still-known t l d (tells w) = tells (again t l d w)
+      still-known t l d (greets g) = greets g
+
   -- what goes out to the recorder
-  sends : (ds : List (List ℕ)) → ((d : List ℕ) → List·Memᴰ d ds → Vouches s d) → Good s (sending s ds)
+  sends : (ds : List (List ℕ)) → ((d : List ℕ) → List·Memᴰ d ds → Known s d) → Good s (sending s ds)
   sends ds f = record {
     inv = record { hung = i .hung; named = i .named; hold = i .hold; line = λ d m. by d (List·Memᴰ·append-cases (s .down) m) };
     later = record { next = omega arith; top = omega arith; over = λ e. e; log = omega arith; down = λ d m. Memᴰ·append-left ds m; up = λ d m. m };
   }
     where
-      by : (d : List ℕ) → List·Memᴰ d (s .down) ⊎ List·Memᴰ d ds → Vouches s d
+      by : (d : List ℕ) → List·Memᴰ d (s .down) ⊎ List·Memᴰ d ds → Known s d
       by d (inl m) = i .line d m
       by d (inr m) = f d m
 
-  out : (v : Reply) (d : List ℕ) → List·Memᴰ d (sent v) → ((x : List ℕ) → v ≡ taken x → Vouches s x) → Vouches s d
+  out : (v : Reply) (d : List ℕ) → List·Memᴰ d (sent v) → ((x : List ℕ) → v ≡ taken x → Known s x) → Known s d
   unfolding sent
   out (refused n) d m f = absurd (List·Memᴰ·not-nil m)
   out (taken x) d m f = rw (List·Memᴰ·eq-of-singleton m) (f x refl)
 
-  to-message : (room : ℕ) (q : Message) (d : List ℕ) → List·Memᴰ d (toMessage s room q) → Vouches s d
-  to-message room (request first count) d m = out _ d m (search lends)
+  to-message : (room : ℕ) (q : Message) (d : List ℕ) → List·Memᴰ d (toMessage s room q) → Known s d
+  to-message room (request first count) d m = out _ d m (λ x e. tells (search lends))
   to-message room (login user password session) d m = absurd (List·Memᴰ·not-nil m)
   to-message room (unsequenced bytes) d m = absurd (List·Memᴰ·not-nil m)
   to-message room heartbeat d m = absurd (List·Memᴰ·not-nil m)
   to-message room logout d m = absurd (List·Memᴰ·not-nil m)
 
-  to-each : (room : ℕ) (qs : List Message) (d : List ℕ) → List·Memᴰ d (toEach s room qs) → Vouches s d
+  to-each : (room : ℕ) (qs : List Message) (d : List ℕ) → List·Memᴰ d (toEach s room qs) → Known s d
   to-each room [] d m = absurd (List·Memᴰ·not-nil m)
   to-each room (q ∷ qs) d m = by (to-each room qs d) (List·Memᴰ·append-cases (toMessage s room q) m) where
-    by : (List·Memᴰ d (toEach s room qs) → Vouches s d) → List·Memᴰ d (toMessage s room q) ⊎ List·Memᴰ d (toEach s room qs) → Vouches s d
+    by : (List·Memᴰ d (toEach s room qs) → Known s d) → List·Memᴰ d (toMessage s room q) ⊎ List·Memᴰ d (toEach s room qs) → Known s d
     by more (inl a) = to-message room q d a
     by more (inr b) = more b
 
-  to-packet : (room : ℕ) (v : Verdict (List Message)) (d : List ℕ) → List·Memᴰ d (toPacket s room v) → Vouches s d
+  to-packet : (room : ℕ) (v : Verdict (List Message)) (d : List ℕ) → List·Memᴰ d (toPacket s room v) → Known s d
   unfolding toPacket
   to-packet room (refused n) d m = absurd (List·Memᴰ·not-nil m)
   to-packet room (taken qs) d m = to-each room qs d m
@@ -124,6 +133,27 @@ module _ (s : State) (i : Inv s) where
       by (refused n) e = stays-put s i
       by (taken t) e = rw (took-so room t e) arrived
 
+  module _ (d : List ℕ) where
+    pub passed-by : LoginAnswer d → (room : ℕ) → taking (s .kept) d room ≡ refused 16
+    passed-by l room = refuses-login (s .kept) (i .named .name) (i .named .ufo) hung-record d l room
+
+    -- what reports something, or is taken, is vouched for
+    pub told : Known s d → (p : ufo.Packet) (report : Report) → ufo.read d ≡ taken p → ofUfo p ≡ taken report → Vouches s d
+    told (tells w) p report e f = w
+    told (greets l) p report e f = reports-none d p report l e f
+
+    pub told-if-taken : Known s d → (room : ℕ) (t : Taking) → taking (s .kept) d room ≡ taken t → Vouches s d
+    told-if-taken (tells w) room t e = w
+    told-if-taken (greets l) room t e = not-both (taking (s .kept) d room) 16 t (passed-by l room) e
+
+    arrives-known : Known s d → (room : ℕ) → Good s (delivering s (taking (s .kept) d room))
+    arrives-known (tells w) room = arrives d w room
+    arrives-known (greets l) room = rw (passed-by l room) (stays-put s i)
+
+    pub received : Known s d → (room : ℕ) → 1472 ≤ room → Received s d room
+    received (tells w) room e = took _ (taken-so d w room e)
+    received (greets l) room e = passed l (passed-by l room) (rw (passed-by l))
+
   -- what goes out to the server
   says-so : (ds : List (List ℕ)) → Good s (saying s (s .kept) ds)
   says-so ds = record {
@@ -155,11 +185,13 @@ pub good : (s : State) (a : Act) → Allowed s a → Inv s → Good s (step s a)
 good s (adds message) al i = grown s i _ (λ k e. adding-leaves (s .log) (s .lent) (i .hung) k message al e)
 good s (addsMany blocks) al i = grown s i _ (λ k e. adding-many-leaves (s .log) (s .lent) (i .hung) k blocks al e)
 good s declares al i = grown s i _ (λ k e. declaring-leaves (s .log) (s .lent) (i .hung) k e)
-good s (beats room) al i = sends s i _ (λ d m. out s i _ d m (search lends))
-good s (ends room) al i = sends s i _ (λ d m. out s i _ d m (search lends))
-good s (answers first count room) al i = sends s i _ (λ d m. out s i _ d m (search lends))
+good s (beats room) al i = sends s i _ (λ d m. out s i _ d m (λ x e. tells (search lends)))
+good s (ends room) al i = sends s i _ (λ d m. out s i _ d m (λ x e. tells (search lends)))
+good s (answers first count room) al i = sends s i _ (to-message s i room (request first count))
+good s (accepts session next room) al i = sends s i _ (λ d m. out s i _ d m (λ x e. greets (accept-answers session next room x e)))
+good s (rejects reason room) al i = sends s i _ (λ d m. out s i _ d m (λ x e. greets (reject-answers reason room x e)))
 good s (serves datagram room) al i = sends s i _ (to-packet s i room _)
-good s (takes datagram room) al i = arrives s i datagram (i .line datagram al) _
+good s (takes datagram room) al i = arrives-known s i datagram (i .line datagram al) _
 good s (asks sheet rule elapsed room) al i = wishes s i room _ (λ first count after e. requests (s .kept) sheet rule elapsed first count after e .changes)
 good s (says datagram) al i = says-so s i _
 

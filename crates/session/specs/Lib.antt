@@ -1,3 +1,4 @@
 pub mod Session
 pub mod Caller
+pub mod InPlace
 pub mod Promise

@@ -7,16 +7,18 @@ use mathlib.Core.List.{List, [], _∷_}
 use mathlib.Core.Bool.{true}
 use lib.Ieee.{Float}
 use lib.ListN.{length, take, getD}
-use Rattle.wire.specs.Checks.{taken}
+use Rattle.wire.specs.Checks.{refused, taken}
 use Rattle.blocks.specs.Blocks.{frames}
+use Rattle.ufo.specs.Down as ufo
 use Rattle.ufo_up.specs.Up.{request, readUp}
-use Rattle.ufo_up.specs.WriteUp.{reply}
+use Rattle.ufo_up_write.specs.WriteUp.{reply}
 use Rattle.clock.specs.declared.sheet.Sheet.{Sheet}
 use Rattle.clock.specs.declared.patience.Patience.{Patience}
 use Rattle.log.specs.Log.{hangs}
 use Rattle.lend.specs.Answer.{answerReply}
 use Rattle.record.specs.Standing.{complete, missing, standing}
-use Rattle.record.specs.Asking.{request as wanted, asking}
+use Rattle.taking.specs.Taking.{Taking, taking}
+use Rattle.asking.specs.Asking.{request as wanted, asking}
 use Rattle.record.specs.declared.Record.{Record}
 use Rattle.session.specs.Session.{_among_, State, logged, serves, takes, asks, step, Run}
 
@@ -26,6 +28,19 @@ pub record Faithful (s : State) : Type 0 where
   pub begun : s .deliveries ≡ take (s .kept .next .0 - 1) (logged s)
   pub inside : s .kept .next .0 ≤ length (logged s) + 1
   pub bytes : frames (s .deliveries) ≡ take (length (frames (s .deliveries))) (s .lent)
+
+-- an answer to a login, an `A` or a `J`
+pub data LoginAnswer (d : List ℕ) : Type 0 where
+  accepted : (session : List ℕ) (next : ℕ) → ufo.read d ≡ taken (ufo.accept session next) → LoginAnswer d
+  rejected : (reason : ℕ) → ufo.read d ≡ taken (ufo.reject reason) → LoginAnswer d
+
+-- a datagram that arrives is taken; or it answers a login, is refused as 16, and nothing changes
+pub data Received (s : State) (datagram : List ℕ) (room : ℕ) : Type 0 where
+  took : (t : Taking) → taking (s .kept) datagram room ≡ taken t → Received s datagram room
+  passed : LoginAnswer datagram
+      → taking (s .kept) datagram room ≡ refused 16
+      → step s (takes datagram room) ≡ s
+      → Received s datagram room
 
 -- message n of the log has been delivered, as the n-th of all
 pub record Delivered (s : State) (n : ℕ) : Type 0 where
@@ -90,3 +105,11 @@ pub record Exchange (s t : State) : Type 0 where
 pub data Exchanges (s : State) : ℕ → State → Type 0 where
   none : {t : State} → Run s t → Exchanges s 0 t
   more : {n : ℕ} {t u w : State} → Exchanges s n t → Exchange t u → Run u w → Exchanges s (suc n) w
+
+-- the request of an exchange, or of each of them, is made with this sheet, under this rule, when so much has elapsed
+abbrev pub Under : Sheet → Patience → Float → {s t : State} → Exchange s t → Type 0
+Under sheet rule elapsed x = (x .due .sheet ≡ sheet) × (x .due .rule ≡ rule) × (x .due .elapsed ≡ elapsed)
+
+abbrev pub EachUnder : Sheet → Patience → Float → {s t : State} {n : ℕ} → Exchanges s n t → Type 0
+EachUnder sheet rule elapsed (none r) = Unit
+EachUnder sheet rule elapsed (more e x r) = EachUnder sheet rule elapsed e × Under sheet rule elapsed x

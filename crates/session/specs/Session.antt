@@ -10,16 +10,18 @@ use Rattle.wire.specs.Fields.{Bytes}
 use Rattle.wire.specs.Checks.{Verdict, refused, taken}
 use Rattle.wire.specs.Reply.{Reply}
 use Rattle.wire.specs.declared.kinds.Name.{Name}
+use Rattle.names.specs.Names.{nameBytes}
+use Rattle.ufo_write.specs.WriteDown.{acceptReply, rejectReply}
 use Rattle.ufo_up.specs.Up.{Message, login, request, unsequenced, heartbeat, logout, readUp}
-use Rattle.ufo_up.specs.WriteUp.{reply}
+use Rattle.ufo_up_write.specs.WriteUp.{reply}
 use Rattle.clock.specs.declared.sheet.Sheet.{Sheet}
 use Rattle.clock.specs.declared.patience.Patience.{Patience}
 use Rattle.log.specs.Log.{messagesIn, Kept, adding, addingMany, declaring}
 use Rattle.lend.specs.Answer.{answerReply, heartbeatReply, endPacketReply}
 use Rattle.log.specs.declared.Log.{Log}
 use Rattle.record.specs.Record.{opening}
-use Rattle.record.specs.Taking.{Taking, taking}
-use Rattle.record.specs.Asking.{Wish, nothing, wait, request as wanted, asking}
+use Rattle.taking.specs.Taking.{Taking, taking}
+use Rattle.asking.specs.Asking.{Wish, nothing, wait, request as wanted, asking}
 use Rattle.record.specs.declared.Record.{Record}
 
 infix 40 _among_
@@ -52,8 +54,9 @@ begin lent kept = record {
 }
 
 -- What may happen. The server adds a message, adds many at once, declares the end; sends a heartbeat, an end packet, an
--- answer that nobody asked for; is handed a datagram, and answers each request in it. The recorder is handed a datagram;
--- asks; says anything else. `room` is the length of the output lent to the entry.
+-- answer that nobody asked for; accepts a login, in whatever session and from whatever number on, or rejects one; is handed a
+-- datagram, and answers each request in it. The recorder is handed a datagram; asks; says anything else. `room` is the length of
+-- the output lent to the entry.
 pub data Act : Type 0 where
   adds : (message : List ℕ) → Act
   addsMany : (blocks : List ℕ) → Act
@@ -61,6 +64,8 @@ pub data Act : Type 0 where
   beats : (room : ℕ) → Act
   ends : (room : ℕ) → Act
   answers : (first count room : ℕ) → Act
+  accepts : (session : Name) (next room : ℕ) → Act
+  rejects : (reason room : ℕ) → Act
   serves : (datagram : List ℕ) (room : ℕ) → Act
   takes : (datagram : List ℕ) (room : ℕ) → Act
   asks : (sheet : Sheet) (rule : Patience) (elapsed : Float) (room : ℕ) → Act
@@ -74,6 +79,8 @@ Allowed s declares = Unit
 Allowed s (beats room) = Unit
 Allowed s (ends room) = Unit
 Allowed s (answers first count room) = Unit
+Allowed s (accepts session next room) = Unit
+Allowed s (rejects reason room) = Unit
 Allowed s (serves datagram room) = datagram among s .up
 Allowed s (takes datagram room) = datagram among s .down
 Allowed s (asks sheet rule elapsed room) = Unit
@@ -151,6 +158,8 @@ step s declares = logging s (declaring (s .log) (s .lent))
 step s (beats room) = sending s (sent (heartbeatReply (s .log) (s .lent) room))
 step s (ends room) = sending s (sent (endPacketReply (s .log) (s .lent) room))
 step s (answers first count room) = sending s (toMessage s room (request first count))
+step s (accepts session next room) = sending s (sent (acceptReply (nameBytes session) next room))
+step s (rejects reason room) = sending s (sent (rejectReply reason room))
 step s (serves datagram room) = sending s (toPacket s room (readUp datagram))
 step s (takes datagram room) = delivering s (taking (s .kept) datagram room)
 step s (asks sheet rule elapsed room) = wishing s room (asking (s .kept) sheet rule elapsed)

@@ -7,9 +7,9 @@ use mathlib.Core.Bool.{true, true≢false}
 use lib.ListN.{getD}
 use borrow.Author.Tests.{not-true}
 use Rattle.wire.specs.Checks.{taken}
-use Rattle.wire.specs.Text.{blank}
+use Rattle.text.specs.Text.{blank}
 use Rattle.wire.proofs.Checks.{all-passed}
-use Rattle.soup.specs.Decimal.{valueOf}
+use Rattle.decimal.specs.Decimal.{valueOf}
 use Rattle.soup.specs.Packet.{Packet, accept, login}
 use Rattle.soup.specs.Read.{opening, field, sizedChecks, acceptChecks, loginChecks, acceptOf, loginOf, byType, read}
 

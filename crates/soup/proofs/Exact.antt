@@ -12,14 +12,14 @@ use lib.Seq.{drop-cons}
 use borrow.Author.Tests.{eq-eqb, ne-eqb, le-leb, eqb-true, eqb-false, leb-true, not-true}
 use Rattle.wire.specs.Fields.{Bytes}
 use Rattle.wire.specs.Checks.{Verdict, taken, refused, checked, Passed}
-use Rattle.wire.specs.Text.{blank}
+use Rattle.text.specs.Text.{blank}
 use Rattle.wire.proofs.Checks.{all-passed, passed-all, not-both, taken-same, chosen}
 use Rattle.wire.proofs.Tests.{one-of-fact}
 use Rattle.wire.proofs.Width.{bytes-drop, bytes-take, length-part}
-use Rattle.soup.specs.Decimal.{wellFormed, valueOf, written}
+use Rattle.decimal.specs.Decimal.{wellFormed, valueOf, written}
 use Rattle.soup.specs.Packet.{Packet, debug, accept, reject, sequenced, serverHeartbeat, endOfSession, login, unsequenced, clientHeartbeat, logout, line, write, Payload, Fit}
 use Rattle.soup.specs.Read.{last, field, payload, unbroken, opening, lineChecks, sizedChecks, rejectChecks, acceptChecks, loginChecks, rejectOf, acceptOf, loginOf, readReject, readAccept, readLogin, byType, read}
-use Rattle.soup.proofs.Written.{read-written, written-read, length-written}
+use Rattle.decimal.proofs.Written.{read-written, written-read, length-written}
 use Rattle.soup.proofs.Linefeed.{unbroken-none, none-unbroken, more, append-unbroken, right-unbroken, left-unbroken, written-unbroken}
 use Rattle.soup.proofs.Lines.{length-line, last-line, front-line, payload-line, line-whole, two-bytes, payload-unbroken, fields-join, field-in}
 

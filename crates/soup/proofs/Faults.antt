@@ -3,7 +3,7 @@
 use Prim.Native.Nat.{ℕ}
 use mathlib.Core.Path.{_≡_, refl, _∙_, sym}
 use mathlib.Core.List.{List, [], _∷_}
-use mathlib.Core.Bool.{Bool, true, not, _&&_}
+use mathlib.Core.Bool.{true, not}
 use native.Mathlib.Omega.{arith}
 use lib.Dec.{eqb}
 use lib.ListN.{length}
@@ -13,11 +13,7 @@ use Rattle.soup.specs.Packet.{Packet}
 use Rattle.soup.specs.Read.{sizedChecks}
 use Rattle.soup.specs.Reading.{readingOf, fault, orRefused}
 use Rattle.wire.proofs.Tests.{by-test, and-left, and-right}
-
--- no check refuses under the number 0
-abbrev pub numbered : List Check → Bool
-numbered [] = true
-numbered (c ∷ cs) = not (eqb (c .number) 0) && numbered cs
+use Rattle.wire.proofs.Numbered.{numbered}
 
 module _ {A : Type 0} (v : Verdict A) (n : ℕ) where
   pub faulty : (cs : List Check) → n ≡ fault cs → (n ≡ 0 → ⊥) → checked cs v ≡ refused n

@@ -1,13 +1,8 @@
-pub mod Digits
-pub mod Powers
-pub mod Written
 pub mod Linefeed
 pub mod Lines
 pub mod Faults
 pub mod Together
 pub mod Sorting
-pub mod Sending
-pub mod Laying
 pub mod Exact
 pub mod Order
 pub mod Specimen

@@ -10,11 +10,11 @@ use lib.Dec.{eqb, leb}
 use lib.ListN.{length, getD, drop, drop-of-length-le}
 use lib.Seq.{drop-cons}
 use borrow.Author.Tests.{ne-eqb, eqb-false, not-true}
-use Rattle.wire.specs.Text.{textThenSpaces, spacesThenText}
-use Rattle.soup.specs.Decimal.{character, places, written}
+use Rattle.text.specs.Text.{textThenSpaces, spacesThenText}
+use Rattle.decimal.specs.Decimal.{character, places, written}
 use Rattle.soup.specs.Read.{unbroken}
 use Rattle.wire.proofs.Tests.{by-test, and-left, and-right}
-use Rattle.wire.proofs.Textual.{padded-right, padded-left}
+use Rattle.text.proofs.Textual.{padded-right, padded-left}
 
 -- no byte is a linefeed
 abbrev pub No-linefeed : List ℕ → Type 0

@@ -5,8 +5,8 @@ use mathlib.Core.Path.{_≡_, refl}
 use mathlib.Core.List.{List, [], _∷_, _++_}
 use lib.ListN.{replicate}
 use Rattle.wire.specs.Checks.{refused, taken}
-use Rattle.wire.specs.Text.{letterOrDigit, blank, text, spacesThenText}
-use Rattle.soup.specs.Decimal.{digit, digits, trimmed, leadingZero, wellFormed, spelt, valueOf}
+use Rattle.text.specs.Text.{letterOrDigit, blank, text, spacesThenText}
+use Rattle.decimal.specs.Decimal.{digit, digits, trimmed, leadingZero, wellFormed, spelt, valueOf}
 use Rattle.soup.specs.Packet.{accept, line}
 use Rattle.soup.specs.Read.{unbroken, acceptOf, read}
 

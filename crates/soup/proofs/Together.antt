@@ -1,61 +1,82 @@
--- Checks that refuse under one number, made together: what the readers of `A` and `L` do.
+-- The readers of `A` and `L`: the texts' padding is checked together, and then all goes by what the number came to.
 -- Assumes nothing.
 use Prim.Native.Nat.{ℕ, _-_, _^_}
 use mathlib.Core.Path.{_≡_, _∙_}
 use mathlib.Core.List.{List, [], _∷_}
-use mathlib.Core.Bool.{true, false, not, _&&_, _||_}
+use mathlib.Core.Bool.{false, not, _&&_, _||_}
 use native.Mathlib.Omega.{arith}
-use lib.Dec.{leb, eqb}
+use lib.ListN.{length}
 use borrow.Author.Tests.{ne-eqb, leb-false}
 use Rattle.wire.specs.Checks.{if_then_else_, _is_, _atMost_, Verdict, taken, refused, Check, _else_, checked}
 use Rattle.wire.proofs.Tests.{by-test}
 use Rattle.wire.proofs.Checks.{checked-both, checked-neither}
-use Rattle.wire.specs.Text.{blank, textThenSpaces, spacesThenText}
-use Rattle.soup.specs.Decimal.{wellFormed, valueOf, numberOf}
-use Rattle.soup.specs.declared.decimal.Number.the-variants.{Over, Is}
+use Rattle.text.specs.Text.{blank, textThenSpaces, spacesThenText}
+use Rattle.decimal.specs.Decimal.{wellFormed, valueOf, fitted, numberOf}
+use Rattle.decimal.specs.declared.Number.{Number}
+use Rattle.decimal.specs.declared.Number.the-variants.{Misshapen, Blank, Over, Is}
 use Rattle.soup.specs.Packet.{Packet, accept, login}
 use Rattle.soup.specs.Read.{acceptOf, loginOf}
 
--- the code's number against the bound
-pub over-bound : (v : ℕ) → numberOf v ≡ Over → leb v (2 ^ 64 - 1) ≡ false
-over-bound v e = by-test (leb v (2 ^ 64 - 1)) (λ t. let q : Is v ≡ Over = rw t at e in cc) (λ t. t)
+-- the verdict on an `A` whose session is padded as it should be
+abbrev pub acceptBy : (session : List ℕ) → Number → Verdict Packet
+acceptBy session Misshapen = refused 5
+acceptBy session Blank = refused 6
+acceptBy session Over = if blank session then refused 6 else refused 7
+acceptBy session (Is n) = if blank session || n is 0 then refused 6 else taken (accept session n)
 
-pub bound-positive : (v : ℕ) → leb v (2 ^ 64 - 1) ≡ false → eqb v 0 ≡ false
-bound-positive v e = ne-eqb v 0 (λ z. omega (arith, leb-false v (2 ^ 64 - 1) e))
+-- and on an `L` whose texts are
+abbrev pub loginBy : (user password session : List ℕ) → Number → Verdict Packet
+loginBy user password session Misshapen = refused 5
+loginBy user password session Blank = refused 6
+loginBy user password session Over = refused 7
+loginBy user password session (Is n) = taken (login user password session n)
 
-pub within-bound : (v n : ℕ) → numberOf v ≡ Is n → (leb v (2 ^ 64 - 1) ≡ true) × (v ≡ n)
-within-bound v n e =
-    by-test (leb v (2 ^ 64 - 1))
-    (λ t. let q : Is v ≡ Is n = rw t at e in (t, cc))
-    (λ t. let q : Over ≡ Is n = rw t at e in (cc, cc))
+-- what is over the bound is not 0
+over-nought : (v : ℕ) → v atMost 2 ^ 64 - 1 ≡ false → v is 0 ≡ false
+over-nought v e = ne-eqb v 0 (λ z. omega (arith, leb-false v (2 ^ 64 - 1) e))
 
--- what is left of the checks of `A` and of `L` once the form is right
-abbrev pub acceptValue : (number : List ℕ) → List Check
-acceptValue number = (not (valueOf number is 0) else 6) ∷ (valueOf number atMost 2 ^ 64 - 1 else 7) ∷ []
+module _ (session number : List ℕ) (l : length number ≡ 20) where
+  -- once the number is well formed and not blank
+  accept-value : (v : ℕ) → checked ((not (blank session) else 6) ∷ (not (v is 0) else 6) ∷ (v atMost 2 ^ 64 - 1 else 7) ∷ []) (taken (accept session v)) ≡ acceptBy session (fitted v)
+  accept-value v =
+      by-test (v atMost 2 ^ 64 - 1)
+      (λ u. rw u (checked-neither 6 (blank session) (v is 0) [] (taken (accept session v))))
+      (λ u. rw (u, over-nought v u) (by-test (blank session) (λ s. rw s) (λ s. rw s)))
 
-abbrev pub loginValue : (number : List ℕ) → List Check
-loginValue number = (not (blank number) else 6) ∷ (valueOf number atMost 2 ^ 64 - 1 else 7) ∷ []
+  pub accept-together : acceptOf session number ≡ (if spacesThenText session then acceptBy session (numberOf number) else refused 5)
+  unfolding acceptOf numberOf
+  accept-together =
+      by-test (spacesThenText session)
+      (λ p.
+      by-test (wellFormed number)
+      (λ f.
+      by-test (blank number)
+      (λ b. rw (p, l, f, b) (by-test (blank session) (λ s. rw s) (λ s. rw s)))
+      (λ b. rw (p, l, f, b) (accept-value (valueOf number))))
+      (λ f. rw (p, l, f)))
+      (λ p. rw p)
 
-module _ (session number : List ℕ) where
-  abbrev acceptFormed : Verdict Packet
-  acceptFormed = if blank session || blank number then refused 6 else checked (acceptValue number) (taken (accept session (valueOf number)))
+module _ (user password session number : List ℕ) (l : length number ≡ 20) where
+  abbrev numberChecks : List Check
+  numberChecks = (wellFormed number else 5) ∷ (not (blank number) else 6) ∷ (valueOf number atMost 2 ^ 64 - 1 else 7) ∷ []
 
-  pub accept-together : acceptOf session number ≡ (if spacesThenText session && wellFormed number then acceptFormed else refused 5)
-  unfolding acceptOf
-  accept-together = rw (checked-both 5 (spacesThenText session) (wellFormed number), checked-neither 6 (blank session) (blank number))
+  login-number : checked numberChecks (taken (login user password session (valueOf number))) ≡ loginBy user password session (numberOf number)
+  unfolding numberOf
+  login-number =
+      by-test (wellFormed number)
+      (λ f.
+      by-test (blank number)
+      (λ b. rw (l, f, b))
+      (λ b. rw (l, f, b) (by-test (valueOf number atMost 2 ^ 64 - 1) (λ u. rw u) (λ u. rw u))))
+      (λ f. rw (l, f))
 
-module _ (user password session number : List ℕ) where
-  abbrev loginFormed : Verdict Packet
-  loginFormed = checked (loginValue number) (taken (login user password session (valueOf number)))
-
-  pub login-together : loginOf user password session number ≡ (if textThenSpaces user && textThenSpaces password && spacesThenText session && wellFormed number then loginFormed else refused 5)
+  pub login-together : loginOf user password session number ≡ (if textThenSpaces user && textThenSpaces password && spacesThenText session then loginBy user password session (numberOf number) else refused 5)
   unfolding loginOf
   login-together =
       let u = textThenSpaces user in
       let p = textThenSpaces password in
       let s = spacesThenText session in
-      let n = wellFormed number in
       let v = taken (login user password session (valueOf number)) in
-      checked-both 5 u p ((s else 5) ∷ (n else 5) ∷ loginValue number) v
-      ∙ checked-both 5 (u && p) s ((n else 5) ∷ loginValue number) v
-      ∙ checked-both 5 (u && p && s) n (loginValue number) v
+      checked-both 5 u p ((s else 5) ∷ numberChecks) v
+      ∙ checked-both 5 (u && p) s numberChecks v
+      ∙ by-test (u && p && s) (λ t. rw t login-number) (λ t. rw t)

@@ -1,5 +1,3 @@
-pub mod Decimal
 pub mod Packet
 pub mod Read
 pub mod Reading
-pub mod Writing

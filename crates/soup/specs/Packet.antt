@@ -8,8 +8,8 @@ use mathlib.Core.Bool.{Bool, true, false, _||_}
 use lib.ListN.{length, getD}
 use Rattle.wire.specs.Checks.{_is_}
 use Rattle.wire.specs.Fields.{Bytes}
-use Rattle.wire.specs.Text.{blank, textThenSpaces, spacesThenText}
-use Rattle.soup.specs.Decimal.{written}
+use Rattle.text.specs.Text.{blank, textThenSpaces, spacesThenText}
+use Rattle.decimal.specs.Decimal.{written}
 
 -- texts and payloads by their bytes, padding and all; a reason by its letter
 pub data Packet : Type 0 where

@@ -5,8 +5,8 @@ use mathlib.Core.List.{List, [], _∷_}
 use mathlib.Core.Bool.{Bool, true, not, _&&_, _||_}
 use lib.ListN.{length, getD, take, drop}
 use Rattle.wire.specs.Checks.{if_then_else_, _is_, _atMost_, Verdict, refused, taken, Check, _else_, checked}
-use Rattle.wire.specs.Text.{blank, textThenSpaces, spacesThenText}
-use Rattle.soup.specs.Decimal.{wellFormed, valueOf}
+use Rattle.text.specs.Text.{blank, textThenSpaces, spacesThenText}
+use Rattle.decimal.specs.Decimal.{wellFormed, valueOf}
 use Rattle.soup.specs.Packet.{Packet, debug, accept, reject, sequenced, serverHeartbeat, endOfSession, login, unsequenced, clientHeartbeat, logout}
 
 -- the last byte, and those before it

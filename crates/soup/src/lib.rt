@@ -1,5 +1,3 @@
-// SoupTCP 3.00: its packets, read and written.
-mod decimal;
-mod line;
+// SoupTCP 3.00: its packets, read.
+pub mod line;
 pub mod reading;
-pub mod writing;

@@ -7,13 +7,13 @@ ghost use Rattle.soup.specs.Reading.{fault};
 use wire::refusal;
 
 // The most bytes of a packet.
-pub(crate) const LONGEST: usize = 4098;
+pub const LONGEST: usize = 4098;
 
 // The most bytes of a payload.
-pub(crate) const LONGEST_PAYLOAD: usize = 4096;
+pub const LONGEST_PAYLOAD: usize = 4096;
 
 // No linefeed in s. Every byte is looked at, so that the loop has one way out and takes many bytes at a time.
-pub(crate) fn is_unbroken(s: &[u8]) -> bool
+pub fn is_unbroken(s: &[u8]) -> bool
     ensures { λ r. ⌜ r ≡ unbroken (now (s .entry)) ⌝ }
 {
     let mut whole = true;

@@ -3,14 +3,13 @@ ghost use mathlib.Core.Path.{_≡_};
 ghost use lib.ListN.{length};
 ghost use Rattle.soup.specs.Read.{lineChecks, sizedChecks, rejectOf, acceptOf, loginOf, readReject, readAccept, readLogin, read};
 ghost use Rattle.soup.specs.Reading.{readingOf, fault, orRefused};
-use crate::decimal;
 use crate::line;
+use decimal::Number;
 use wire::kinds::Name;
+use wire::kinds::Password;
 use wire::kinds::Sequence;
 use wire::kinds::User;
-use wire::names;
 use wire::refusal;
-use wire::text;
 
 // What a packet says. A payload is told by its place in the packet.
 pub enum Reading {
@@ -34,7 +33,7 @@ pub enum Reading {
     EndOfSession,
     Login {
         user: User,
-        password: Name,
+        password: Password,
         session: Name,
         number: Sequence,
     },
@@ -82,18 +81,21 @@ fn accept_of(session: &[u8], digits: &[u8]) -> Reading
     requires { ⌜ (length (now session) ≡ 10) × (length (now digits) ≡ 20) ⌝ }
     ensures { λ r. ⌜ r ≡ readingOf (acceptOf (now (session .entry)) (now (digits .entry))) ⌝ }
 {
-    let formed = text::is_spaces_then_text(session) & decimal::is_well_formed(digits);
-    if !formed {
+    if !text::is_spaces_then_text(session) {
         return Reading::Refused(refusal::FORM);
     }
-    let absent = text::is_blank(session) | text::is_blank(digits);
-    if absent {
-        return Reading::Refused(refusal::ABSENT);
-    }
-    match decimal::value(digits) {
-        decimal::Number::Over => Reading::Refused(refusal::BOUND),
-        decimal::Number::Is(n) => {
-            if n == 0 {
+    let absent = text::is_blank(session);
+    match decimal::read(digits) {
+        Number::Misshapen => Reading::Refused(refusal::FORM),
+        Number::Blank => Reading::Refused(refusal::ABSENT),
+        Number::Over => {
+            if absent {
+                return Reading::Refused(refusal::ABSENT);
+            }
+            Reading::Refused(refusal::BOUND)
+        }
+        Number::Is(n) => {
+            if absent | (n == 0) {
                 return Reading::Refused(refusal::ABSENT);
             }
             Reading::Accept {
@@ -108,21 +110,19 @@ fn login_of(user: &[u8], password: &[u8], session: &[u8], digits: &[u8]) -> Read
     requires { ⌜ (length (now user) ≡ 6) × (length (now password) ≡ 10) × (length (now session) ≡ 10) × (length (now digits) ≡ 20) ⌝ }
     ensures { λ r. ⌜ r ≡ readingOf (loginOf (now (user .entry)) (now (password .entry)) (now (session .entry)) (now (digits .entry))) ⌝ }
 {
-    let formed = text::is_text_then_spaces(user)
+    let padded = text::is_text_then_spaces(user)
         & text::is_text_then_spaces(password)
-        & text::is_spaces_then_text(session)
-        & decimal::is_well_formed(digits);
-    if !formed {
+        & text::is_spaces_then_text(session);
+    if !padded {
         return Reading::Refused(refusal::FORM);
     }
-    if text::is_blank(digits) {
-        return Reading::Refused(refusal::ABSENT);
-    }
-    match decimal::value(digits) {
-        decimal::Number::Over => Reading::Refused(refusal::BOUND),
-        decimal::Number::Is(n) => Reading::Login {
+    match decimal::read(digits) {
+        Number::Misshapen => Reading::Refused(refusal::FORM),
+        Number::Blank => Reading::Refused(refusal::ABSENT),
+        Number::Over => Reading::Refused(refusal::BOUND),
+        Number::Is(n) => Reading::Login {
             user: names::get_user(user, 0),
-            password: names::get_name(password, 0),
+            password: Password(names::get_name(password, 0)),
             session: names::get_name(session, 0),
             number: Sequence(n),
         },

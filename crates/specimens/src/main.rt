@@ -1,52 +1,95 @@
 // The specimen book is read from standard input and run on the desk. A line that begins with a small letter is for the desk: the
-// letter says for whom, and the line's hexadecimal digits, in capitals, are bytes. Every line is copied, and an answer follows its own.
+// letter says for whom, and the line's hexadecimal digits, in capitals, are bytes, or, where the words ask for numbers, decimal ones.
+// Every line is copied, and an answer follows its own.
 mod decimals;
+mod entry;
 mod hex;
 mod lending;
 mod memx_packets;
+mod numbers;
 mod page;
 mod soup_packets;
 mod tape;
 mod timing;
 mod ufo_packets;
+mod visiting;
+mod writing;
 
+use crate::lending::Shelf;
 use bytes::scan;
 use libc::STDIN_FILENO;
 use record::Record;
 use record::open;
 use wire::kinds::SessionId;
 
-// The record is handed from line to line.
-fn answer(letter: u8, d: &[u8], kept: Record) -> Record {
+// What is handed from line to line.
+struct Desk {
+    kept: Record,
+    shelf: Shelf,
+}
+
+// Lines after which the desk is as it was. `mark` is the number behind `>`.
+fn answer(letter: u8, text: &[u8], d: &[u8], mark: usize) {
     match letter {
-        b'o' => return tape::tell(tape::open(d, kept)),
-        b't' => return tape::tell(tape::take(d, kept)),
         b'd' => ufo_packets::down(d),
         b'u' => ufo_packets::up(d),
+        b'f' => ufo_packets::find(d, mark),
+        b'b' => visiting::visit(d, mark),
         b'm' => memx_packets::memx(d),
         b's' => soup_packets::soup(d),
         b'c' => timing::clock(d),
-        b'l' => lending::lend(d),
+        b'w' => timing::wait(text),
+        b'g' => timing::gauge(text),
+        b'n' => timing::now(text),
         _ => {}
     }
-    kept
 }
 
-fn line(letter: u8, text: &[u8], kept: Record) -> Record {
-    let mut room = [0u8; 256];
-    let n = hex::decode(text, &mut room);
+fn answers(letter: u8, text: &[u8], d: &[u8], mark: usize, desk: Desk, lent: &mut [u8]) -> Desk {
+    answer(letter, text, d, mark);
+    let kept = tape::line(letter, text, d, mark, desk.kept);
+    let shelf = lending::line(letter, text, d, mark, desk.shelf, lent);
+    Desk { kept, shelf }
+}
+
+// The desk after a line.
+fn question(letter: u8, text: &[u8], desk: Desk, lent: &mut [u8]) -> Desk {
+    let mut room = [0u8; page::ROOM];
+    if letter < b'a' {
+        return desk;
+    }
+    let n = entry::bytes(entry::before_mark(text), &mut room);
+    let mark = entry::behind_mark(text, page::ROOM);
+    if letter == b'p' {
+        writing::put(text, &room, n, mark);
+    }
+    if n <= page::ROOM {
+        return answers(letter, text, &room[0..n], mark, desk, lent);
+    }
+    desk
+}
+
+fn line(letter: u8, text: &[u8], desk: Desk, lent: &mut [u8]) -> Desk {
     page::words(text);
-    let after = answer(letter, &room[..n], kept);
+    let after = question(letter, text, desk, lent);
     page::words(b"\n");
     after
 }
 
-fn run(book: &[u8]) {
-    let mut kept = open::open_memx(SessionId(0));
+fn fresh() -> Desk {
+    Desk {
+        kept: open::open_memx(SessionId(0)),
+        shelf: lending::empty(0),
+    }
+}
+
+// What is lent to the log lies in `lent`.
+fn run(book: &[u8], lent: &mut [u8]) {
+    let mut desk = fresh();
     let mut at = 0;
     while at < book.len() {
         let end = scan::find(book, at, book.len(), b'\n');
-        kept = line(book[at], &book[at..end], kept);
+        desk = line(book[at], &book[at..end], desk, lent);
         if end == book.len() {
             return;
         }
@@ -55,7 +98,8 @@ fn run(book: &[u8]) {
 }
 
 fn main() {
-    let mut book = [0u8; 8192];
+    let mut book = io::large_buffer();
+    let mut lent = [0u8; page::ROOM];
     let n = io::read_full(STDIN_FILENO, &mut book);
-    run(&book[..n]);
+    run(&book[..n], &mut lent);
 }

@@ -10,7 +10,7 @@ use lib.ListN.{length, set, length-append}
 use lib.Seq.{take-at, drop-at, sets}
 use Rattle.wire.specs.Fields.{bytesOf}
 use Rattle.wire.specs.Checks.{_is_, _atMost_, Check, _else_, checked, taken}
-use Rattle.wire.specs.Text.{blank, textThenSpaces}
+use Rattle.text.specs.Text.{blank, textThenSpaces}
 use Rattle.wire.specs.Datagram.{limit}
 use Rattle.wire.proofs.Width.{be-bytesOf, be-last, length-bytesOf}
 use Rattle.blocks.specs.Blocks.{cut, isWhole, messagesOf}

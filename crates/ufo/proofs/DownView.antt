@@ -5,7 +5,7 @@ use mathlib.Core.Path.{_≡_, refl}
 use mathlib.Core.List.{List}
 use lib.ListN.{length}
 use Rattle.wire.specs.Checks.{Verdict, refused, taken}
-use Rattle.wire.specs.Names.{nameOf}
+use Rattle.names.specs.Names.{nameOf}
 use Rattle.wire.specs.declared.kinds.Name.{Name}
 use Rattle.ufo.specs.Down.{Packet, accept, reject, messages, end, downOf}
 use Rattle.ufo.specs.declared.down.Down.{Down}

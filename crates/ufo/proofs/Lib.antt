@@ -1,9 +1,7 @@
-pub mod DownOrder
+pub mod Order
 pub mod DownLaid
 pub mod DownTaken
-pub mod DownExact
+pub mod Exact
 pub mod DownMessages
 pub mod DownView
-pub mod DownReplies
-pub mod DownLawful
 mod Settled

@@ -9,8 +9,8 @@ use lib.ListN.{length, getD, take, drop}
 use Rattle.wire.specs.Fields.{be, bytesOf, Bytes}
 use Rattle.wire.specs.Checks.{if_then_else_, _is_, _atMost_, Verdict, refused, taken, Check, _else_, checked}
 use Rattle.wire.specs.Datagram.{limit, opening}
-use Rattle.wire.specs.Names.{nameOf}
-use Rattle.wire.specs.Text.{blank, textThenSpaces}
+use Rattle.names.specs.Names.{nameOf}
+use Rattle.text.specs.Text.{blank, textThenSpaces}
 use Rattle.blocks.specs.Blocks.{frames, Cut, cut, isWhole, messagesOf, Each}
 use Rattle.ufo.specs.declared.down.Down.{Down}
 use Rattle.ufo.specs.declared.down.Down.the-variants.{Refused, Accept, Reject, Messages, End}

@@ -5,9 +5,7 @@ use wire::datagram::LIMIT;
 use wire::fields;
 use wire::kinds::Name;
 use wire::kinds::Sequence;
-use wire::names;
 use wire::refusal;
-use wire::text;
 
 // The highest number that a field of four bytes holds.
 pub const HIGHEST: u64 = 4294967295;

@@ -1,3 +1,2 @@
-// UFO 1.0, server to client: packets read and written.
+// UFO 1.0, server to client: packets read.
 pub mod down;
-pub mod write_down;

@@ -1,11 +1,11 @@
-pub mod UpOrder
+pub mod Limits
+pub mod Order
 pub mod UpMessage
 pub mod UpWalk
 pub mod UpPacket
 pub mod UpExactOne
-pub mod UpExact
+pub mod Exact
 pub mod UpInTurn
+mod UpFinding
 pub mod UpOne
-pub mod UpReplies
-pub mod UpLaid
 mod Settled

@@ -10,7 +10,7 @@ use lib.ListN.{length, drop, length-append, length-drop, drop-of-length-le}
 use lib.Seq.{take-at, drop-at, take-all}
 use Rattle.wire.specs.Fields.{bytesOf, Bytes}
 use Rattle.wire.specs.Checks.{_is_, refused, taken, Check, _else_, checked, Passed}
-use Rattle.wire.specs.Text.{textThenSpaces}
+use Rattle.text.specs.Text.{textThenSpaces}
 use Rattle.wire.proofs.Tests.{nonzero}
 use Rattle.wire.proofs.Width.{be-bytesOf, be-last, be-lt, bytes-drop, length-bytesOf, length-part, part-again, first-again, written-again, written-last}
 use Rattle.wire.proofs.Checks.{not-both, came-by}

@@ -1,6 +1,6 @@
 -- One message: what the block at its place and its type byte say of it.
 -- Assumes nothing.
-use Prim.Native.Nat.{ℕ}
+use Prim.Native.Nat.{ℕ, _<_}
 use mathlib.Core.List.{List}
 use mathlib.Core.Path.{_≡_, refl, sym, _∙_}
 use mathlib.Core.Bool.{Bool, true, false}
@@ -36,9 +36,12 @@ module _ (m : List ℕ) where
 
 module _ (d : List ℕ) (p : ℕ) where
   -- no block stands at p
-  pub none-at : (n : ℕ) → blockAt d p ≡ block.Refused n → up.Refused n ≡ upOf (endAt d p) (messageAt d p)
+  pub over-at : length d < endAt d p → messageAt d p ≡ refused 4
   unfolding messageAt
-  none-at n e = let f = missed d p n e in rw (f .0, lt-leb (endAt d p) (length d) (f .1))
+  over-at h = rw (lt-leb (endAt d p) (length d) h)
+
+  pub none-at : (n : ℕ) → blockAt d p ≡ block.Refused n → up.Refused n ≡ upOf (endAt d p) (messageAt d p)
+  none-at n e = let f = missed d p n e in rw (f .0, over-at (f .1))
 
   -- one does
   module _ (start size next : ℕ) (f : Found d p start size next) where

@@ -10,7 +10,7 @@ use lib.ListN.{length}
 use Rattle.wire.specs.Checks.{_atMost_, taken, _else_, checked, _into_}
 use Rattle.wire.specs.Datagram.{limit}
 use Rattle.wire.proofs.Tests.{by-test}
-use Rattle.blocks.specs.Blocks.{frame, frames, whole, upstream}
+use Rattle.blocks.specs.Blocks.{frame, whole, upstream}
 use Rattle.blocks.proofs.Frames.{length-frame, frames-one}
 use Rattle.blocks.proofs.Cutting.{upstream-frames}
 use Rattle.ufo_up.specs.Up.{readMessage, readEach, readUp}

@@ -1,15 +1,15 @@
 -- UFO, client to server: a packet is one or more messages, each in a block of its own.
 -- Assumes nothing.
-use Prim.Native.Nat.{ℕ, _-_, _^_, _≤_, _<_}
+use Prim.Native.Nat.{ℕ, _+_, _-_, _^_, _≤_, _<_}
 use mathlib.Core.Path.{_≡_}
 use mathlib.Core.List.{List, [], _∷_, _++_, map}
-use mathlib.Core.Bool.{true, not}
+use mathlib.Core.Bool.{Bool, true, false, not}
 use lib.ListN.{length, getD, take, drop}
 use Rattle.wire.specs.Fields.{be, bytesOf, Bytes}
 use Rattle.wire.specs.Checks.{if_then_else_, _is_, _atMost_, Verdict, refused, taken, Check, _else_, checked, _into_}
 use Rattle.wire.specs.Datagram.{limit, opening}
-use Rattle.wire.specs.Names.{nameOf, userOf}
-use Rattle.wire.specs.Text.{textThenSpaces}
+use Rattle.names.specs.Names.{nameOf, userOf}
+use Rattle.text.specs.Text.{textThenSpaces}
 use Rattle.blocks.specs.Blocks.{frames, stated, first, Cut, torn, whole, upstream, endAt}
 use Rattle.blocks.specs.declared.Place.{Place}
 use Rattle.blocks.specs.declared.Place.the-variants as place
@@ -37,6 +37,10 @@ writeMessage logout = 79 ∷ []
 abbrev pub writeUp : List Message → List ℕ
 writeUp ms = frames (map writeMessage ms)
 
+-- the most data that `U` carries
+abbrev pub mostData : ℕ
+mostData = 1469
+
 -- which messages are lawful. A text field has its length and is padded on the right; it may be blank
 abbrev pub Field : ℕ → List ℕ → Type 0
 Field n s = (length s ≡ n) × (textThenSpaces s ≡ true)
@@ -44,7 +48,7 @@ Field n s = (length s ≡ n) × (textThenSpaces s ≡ true)
 abbrev pub FitMessage : Message → Type 0
 FitMessage (login user password session) = Field 6 user × Field 10 password × Field 10 session
 FitMessage (request first count) = (0 < first) × (first < 2 ^ 32) × (0 < count) × (count < 2 ^ 16)
-FitMessage (unsequenced bytes) = Bytes bytes × (length bytes ≤ 1469)
+FitMessage (unsequenced bytes) = Bytes bytes × (length bytes ≤ mostData)
 FitMessage heartbeat = Unit
 FitMessage logout = Unit
 
@@ -100,10 +104,10 @@ checksT m =
 unfoldable pub readT : List ℕ → Verdict Message
 readT m = checked (checksT m) (taken (request (firstT m) (countT m)))
 
--- data. More than 1,469 bytes of it are too long, whatever the packet: with the type byte and the block's length
--- they would not stand in 1,472
+-- data. More than the most is too long, whatever the packet: with the type byte and the block's length it would not
+-- stand in one
 abbrev pub checksU : List ℕ → List Check
-checksU m = (length m atMost 1470 else 4) ∷ []
+checksU m = (length m atMost 1 + mostData else 4) ∷ []
 
 unfoldable pub readU : List ℕ → Verdict Message
 readU m = checked (checksU m) (taken (unsequenced (drop 1 m)))
@@ -152,14 +156,25 @@ messageAt d p =
     checked ((endAt d p atMost length d else 4) ∷ (not (stated (drop p d) is 0) else 4) ∷ [])
     (readMessage (first (drop p d)))
 
--- the same of a packet that is neither empty nor too long
+-- of messages whose blocks stand from `at` on, the one whose block stands at a place
+unfoldable pub messageFrom : ℕ → List Message → ℕ → Verdict Message
+messageFrom at [] place = refused 4
+messageFrom at (m ∷ ms) place =
+    if at is place then taken m else messageFrom (at + 2 + length (writeMessage m)) ms place
+
+-- the whole packet comes first, and then 4 where no block starts
 abbrev pub messageIn : List ℕ → ℕ → Verdict Message
-messageIn d p = checked (opening d) (messageAt d p)
+messageIn d place = readUp d into (λ ms. messageFrom 0 ms place)
+
+-- the packet is not refused
+abbrev pub isTaken : Verdict (List Message) → Bool
+isTaken (refused n) = false
+isTaken (taken ms) = true
 
 -- its fields, and the next place, where its block ends. The data of `U` ends there too
 abbrev pub upOf : ℕ → Verdict Message → Up
 upOf next (refused n) = up.Refused n
-upOf next (taken (login u w s)) = up.Login (userOf u) (nameOf w) (nameOf s) next
+upOf next (taken (login u w s)) = up.Login (userOf u) (record { 0 = nameOf w }) (nameOf s) next
 upOf next (taken (request n c)) = up.Request (record { 0 = n }) c next
 upOf next (taken (unsequenced b)) = up.Unsequenced (next - length b) (length b) next
 upOf next (taken heartbeat) = up.Heartbeat next

@@ -1,3 +1,2 @@
-// UFO 1.0, client to server: packets and their messages, read and written.
+// UFO 1.0, client to server: packets and their messages, read.
 pub mod up;
-pub mod write_up;

@@ -6,18 +6,17 @@ ghost use lib.ListN.{length};
 ghost use Rattle.wire.specs.Checks.{if_then_else_, _is_};
 ghost use Rattle.wire.specs.Datagram.{limit};
 ghost use Rattle.blocks.specs.Blocks.{upstream, isWhole, messagesOf, endAt};
-ghost use Rattle.ufo_up.specs.Up.{readL, readT, readU, readEach, readUp, messageAt, messageIn, upstreamOf, upOf, nextOf};
+ghost use Rattle.ufo_up.specs.Up.{readL, readT, readU, readEach, readUp, messageAt, messageIn, upstreamOf, upOf, nextOf, isTaken};
 use blocks::Block;
 use blocks::Count;
 use blocks::Place;
 use wire::datagram::LIMIT;
 use wire::fields;
 use wire::kinds::Name;
+use wire::kinds::Password;
 use wire::kinds::Sequence;
 use wire::kinds::User;
-use wire::names;
 use wire::refusal;
-use wire::text;
 
 // A whole packet: how many messages it has.
 pub enum Upstream {
@@ -30,7 +29,7 @@ pub enum Up {
     Refused(u8),
     Login {
         user: User,
-        password: Name,
+        password: Password,
         session: Name,
         next: usize,
     },
@@ -73,7 +72,7 @@ fn read_l(m: &[u8], next: usize) -> Up
     }
     Up::Login {
         user: names::get_user(user, 0),
-        password: names::get_name(password, 0),
+        password: Password(names::get_name(password, 0)),
         session: names::get_name(session, 0),
         next,
     }
@@ -199,18 +198,6 @@ fn read_each(d: &[u8]) -> Upstream
     Upstream::Messages(count)
 }
 
-pub fn read_message(d: &[u8], place: usize) -> Up
-    ensures { λ r. ⌜ r ≡ upOf (endAt (now (d .entry)) place) (messageIn (now (d .entry)) place) ⌝ }
-{
-    if d.len() == 0 {
-        return Up::Refused(refusal::EMPTY);
-    }
-    if LIMIT < d.len() {
-        return Up::Refused(refusal::OVERLONG);
-    }
-    message_at(d, place)
-}
-
 pub fn read_up(d: &[u8]) -> Upstream
     ensures { λ r. ⌜ r ≡ upstreamOf (readUp (now (d .entry))) ⌝ }
 {
@@ -223,5 +210,41 @@ pub fn read_up(d: &[u8]) -> Upstream
     match blocks::count_upstream(d) {
         Count::Refused(n) => Upstream::Refused(n),
         Count::Blocks(_) => read_each(d),
+    }
+}
+
+// The message at a place of a packet that is taken. A block stands there only if the blocks before it end there.
+fn find_message(d: &[u8], place: usize) -> Up
+    requires { ⌜ isTaken (readUp (now d)) ≡ true ⌝ }
+    ensures { λ r. ⌜ r ≡ upOf (endAt (now (d .entry)) place) (messageIn (now (d .entry)) place) ⌝ }
+{
+    let mut at = 0;
+    while at < place {
+        match blocks::next(d, at) {
+            Block::At {
+                start: _,
+                length: _,
+                next,
+            } => {
+                at = next;
+            }
+            Block::Refused(n) => {
+                return Up::Refused(n);
+            }
+        }
+    }
+    if place < at {
+        return Up::Refused(refusal::FRAMING);
+    }
+    message_at(d, place)
+}
+
+// Each message costs a pass over the whole packet: none is handed out of a packet that is refused.
+pub fn read_message(d: &[u8], place: usize) -> Up
+    ensures { λ r. ⌜ r ≡ upOf (endAt (now (d .entry)) place) (messageIn (now (d .entry)) place) ⌝ }
+{
+    match read_up(d) {
+        Upstream::Refused(n) => Up::Refused(n),
+        Upstream::Messages(_) => find_message(d, place),
     }
 }

@@ -1,8 +1,6 @@
 pub mod Width
 pub mod Checks
-pub mod Packing
-pub mod Padding
-pub mod Textual
+pub mod Numbered
 pub mod Settling
 pub mod Tests
 pub mod Outcomes

@@ -135,6 +135,10 @@ put-add j k d at n h =
     let m = n / 2 ^ (8 * k) in
     rw bytesOf-add (sets-after d at j (bytesOf j m) (bytesOf k (n % 2 ^ (8 * k))) (length-bytesOf j m))
 
+-- and so where each is stored by a call of its own
+pub puts : (j k : ℕ) (d mid left : List ℕ) (at n : ℕ) → n < 2 ^ (8 * (j + k)) → mid ≡ sets d at (bytesOf j (n / 2 ^ (8 * k))) → left ≡ sets mid (at + j) (bytesOf k (n % 2 ^ (8 * k))) → left ≡ sets d at (bytesOf (j + k) n)
+puts j k d mid left at n h e f = f ∙ ap (λ (x : List ℕ). sets x (at + j) (bytesOf k (n % 2 ^ (8 * k)))) e ∙ put-add j k d at n h
+
 -- two bytes at a place
 pub be-two : (s : List ℕ) (at : ℕ) → be 2 (drop at s) ≡ getD s at 0 * 256 + getD s (at + 1) 0
 unfolding be

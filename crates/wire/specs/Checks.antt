@@ -1,10 +1,10 @@
 -- Definitions that read as a list of checks, each with the number under which it refuses.
 -- Assumes nothing.
-use Prim.Native.Nat.{ℕ}
+use Prim.Native.Nat.{ℕ, suc}
 use mathlib.Core.Path.{_≡_}
 use mathlib.Core.List.{List, [], _∷_}
 use mathlib.Core.Bool.{Bool, true, false, _&&_}
-use lib.ListN.{getD}
+use lib.ListN.{length}
 use lib.Dec.{leb, eqb}
 
 infixr 5 if_then_else_
@@ -50,14 +50,21 @@ abbrev pub Passed : List Check → Type 0
 Passed [] = Unit
 Passed (c ∷ cs) = (c .test ≡ true) × Passed cs
 
--- where a number stands in the order in which readers check: 1, 2, 3, 4, 8, 5, 6, 7
-abbrev rank : ℕ → ℕ
-rank n = getD (0 ∷ 1 ∷ 2 ∷ 3 ∷ 4 ∷ 6 ∷ 7 ∷ 8 ∷ 5 ∷ []) n 9
+-- where a number stands in an order; past its end where it is not in it
+abbrev placeIn : List ℕ → ℕ → ℕ
+placeIn [] n = 0
+placeIn (m ∷ order) n = if m is n then 0 else suc (placeIn order n)
 
-abbrev rising : ℕ → List Check → Bool
-rising m [] = true
-rising m (c ∷ cs) = leb m (rank (c .number)) && rising (rank (c .number)) cs
+abbrev rising : List ℕ → ℕ → List Check → Bool
+rising order from [] = true
+rising order from (c ∷ cs) =
+    let place = placeIn order (c .number) in
+    from atMost place && suc place atMost length order && rising order place cs
 
--- the checks stand in that order
+-- the numbers of the checks are all in an order, and stand in it
+abbrev pub inOrder : List ℕ → List Check → Bool
+inOrder order cs = rising order 0 cs
+
+-- the order in which readers check
 abbrev pub ordered : List Check → Bool
-ordered cs = rising 0 cs
+ordered cs = inOrder (1 ∷ 2 ∷ 3 ∷ 4 ∷ 8 ∷ 5 ∷ 6 ∷ 7 ∷ []) cs

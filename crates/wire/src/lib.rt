@@ -1,8 +1,6 @@
-// The words of the wire: kinds, refusal numbers, sizes, fields, text, and what is laid into lent output.
+// The words of the wire: kinds, refusal numbers, sizes, fields, and what is laid into lent output.
 pub mod datagram;
 pub mod fields;
 pub mod kinds;
-pub mod names;
 pub mod output;
 pub mod refusal;
-pub mod text;

@@ -14,7 +14,7 @@ const DATAGRAM: usize = 1472;
 const SOUP: usize = 4098;
 
 /// Every function of the face with its cases.
-pub const FUNCTIONS: [(&str, Case); 24] = [
+pub const FUNCTIONS: [(&str, Case); 26] = [
     ("hp_soup_read", soup_read),
     ("hp_ufo_read_down", ufo_read_down),
     ("hp_ufo_read_up", ufo_read_up),
@@ -24,6 +24,7 @@ pub const FUNCTIONS: [(&str, Case); 24] = [
     ("hp_soup_write", soup_write),
     ("hp_ufo_write_down", ufo_write_down),
     ("hp_ufo_write_message", ufo_write_message),
+    ("hp_ufo_add_message", ufo_add_message),
     ("hp_memx_write", memx_write),
     ("hp_open_ufo", open_ufo),
     ("hp_open_memx", open_memx),
@@ -35,6 +36,7 @@ pub const FUNCTIONS: [(&str, Case); 24] = [
     ("hp_line_lost", line_lost),
     ("hp_heartbeat_due", heartbeat_due),
     ("hp_log_add", log_add),
+    ("hp_log_add_many", log_add_many),
     ("hp_log_declare_end", log_declare_end),
     ("hp_log_answer", log_answer),
     ("hp_log_heartbeat", log_heartbeat),
@@ -134,6 +136,25 @@ fn ufo_write_down(dice: &mut Dice) -> Result<u64, Difference> {
 fn ufo_write_message(dice: &mut Dice) -> Result<u64, Difference> {
     let (fields, body) = make::to_write(b"LTTURO", b"U", false, DATAGRAM, dice);
     writing!(hp_ufo_write_message, fields, body, dice)
+}
+
+fn ufo_add_message(dice: &mut Dice) -> Result<u64, Difference> {
+    let (fields, body) = make::to_write(b"LTTURO", b"U", false, DATAGRAM, dice);
+    let packet = make::ufo_begun(body.len(), DATAGRAM, dice);
+    let mut ample = [&packet[..], &[0; DATAGRAM]].concat();
+    let used = packet.len() as u64;
+    let needed = plain::hp_ufo_add_message(fields.twin(), &body, &mut ample, used).bytes;
+    let mut out = room(needed.max(used), dice);
+    let there = packet.len().min(out.len());
+    out[..there].copy_from_slice(&packet[..there]);
+    let used = match dice.below(16) {
+        0 => make::number(dice),
+        1 => make::near(used, dice),
+        2 => make::near(out.len() as u64, dice),
+        _ => used,
+    };
+    both!(hp_ufo_add_message(fields, body, out, used); lent body = &body; room out = out)
+        .map(Agreed::refusal)
 }
 
 fn memx_write(dice: &mut Dice) -> Result<u64, Difference> {
@@ -242,6 +263,21 @@ fn log_add(dice: &mut Dice) -> Result<u64, Difference> {
         bytes.resize(bytes.len() + length + dice.below(4), 0x3c);
     }
     both!(hp_log_add(log, tape, lent); lent lent = &message; room tape = bytes).map(Agreed::refusal)
+}
+
+fn log_add_many(dice: &mut Dice) -> Result<u64, Difference> {
+    let (log, mut bytes) = make::log(dice);
+    let mut many = make::many(dice);
+    if dice.one_in(4) {
+        make::damage(&mut many, DATAGRAM, dice);
+    }
+    if !dice.one_in(3) {
+        // the room that is needed, or a byte or two more or less
+        bytes.truncate(log.used as usize);
+        bytes.extend(blank((many.len() + dice.below(5)).saturating_sub(2)));
+    }
+    both!(hp_log_add_many(log, tape, lent); lent lent = &many; room tape = bytes)
+        .map(Agreed::refusal)
 }
 
 fn log_declare_end(dice: &mut Dice) -> Result<u64, Difference> {

@@ -80,13 +80,28 @@ fn length(dice: &mut Dice) -> usize {
     }
 }
 
+/// A block of that length.
+fn block(length: usize, dice: &mut Dice) -> Vec<u8> {
+    [&(length as u16).to_be_bytes()[..], &dice.bytes(length)].concat()
+}
+
 /// So many blocks.
 pub fn blocks(count: usize, dice: &mut Dice) -> Vec<u8> {
     let mut bytes = Vec::new();
     for _ in 0..count {
         let length = length(dice);
-        bytes.extend((length as u16).to_be_bytes());
-        bytes.extend(dice.bytes(length));
+        bytes.extend(block(length, dice));
+    }
+    bytes
+}
+
+/// Blocks for a log, or none, at times with one among them that is as long as may be, or longer.
+pub fn many(dice: &mut Dice) -> Vec<u8> {
+    let mut bytes = blocks(few(dice), dice);
+    if dice.one_in(20) {
+        let length = dice.pick(&[1462, 1463, 1464, 2000, 65_535]);
+        bytes.extend(block(length, dice));
+        bytes.extend(blocks(few(dice), dice));
     }
     bytes
 }

@@ -8,7 +8,7 @@ use std::thread;
 const CASES: u64 = 45_000;
 
 /// Every function, and exactly which refusals must come up among its cases (0: none).
-const EXPECTED: [(&str, &[usize]); 24] = [
+const EXPECTED: [(&str, &[usize]); 26] = [
     ("hp_soup_read", &[0, 1, 2, 3, 4, 5, 6, 7, 8]),
     ("hp_ufo_read_down", &[0, 1, 2, 3, 4, 5, 6, 7]),
     ("hp_ufo_read_up", &[0, 1, 2, 3, 4, 5, 6]),
@@ -18,6 +18,7 @@ const EXPECTED: [(&str, &[usize]); 24] = [
     ("hp_soup_write", &[0, 2, 3, 4, 5, 6, 8, 9]),
     ("hp_ufo_write_down", &[0, 2, 3, 4, 5, 6, 7, 9]),
     ("hp_ufo_write_message", &[0, 2, 3, 4, 5, 6, 7, 9]),
+    ("hp_ufo_add_message", &[0, 2, 3, 4, 5, 6, 7, 9]),
     ("hp_memx_write", &[0, 2, 3, 4, 6, 7, 9]),
     ("hp_open_ufo", &[0, 5, 6]),
     ("hp_open_memx", &[0]),
@@ -29,6 +30,7 @@ const EXPECTED: [(&str, &[usize]); 24] = [
     ("hp_line_lost", &[0, 14]),
     ("hp_heartbeat_due", &[0, 14]),
     ("hp_log_add", &[0, 2, 9, 10, 13]),
+    ("hp_log_add_many", &[0, 2, 4, 9, 10, 13]),
     ("hp_log_declare_end", &[0, 10, 13]),
     ("hp_log_answer", &[0, 6, 9, 10]),
     ("hp_log_heartbeat", &[0, 9, 10]),
@@ -77,6 +79,6 @@ fn the_two_desks_agree_on_more_than_a_million_cases() {
         .collect();
     assert!(wrong.is_empty(), "{}", wrong.join("\n\n"));
     let cases: u64 = done.iter().flatten().sum();
-    assert_eq!(cases, 24 * CASES);
+    assert_eq!(cases, 26 * CASES);
     assert!(cases > 1_000_000);
 }

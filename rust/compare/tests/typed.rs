@@ -67,6 +67,22 @@ fn ufo_packets_from_the_client_come_back() {
 }
 
 #[test]
+fn ufo_packets_from_the_client_are_put_together_again() {
+    round_trips(
+        |dice| make::ufo_up(dice).0,
+        1472,
+        |packet, out| {
+            let mut upstream = ufo::Upstream::over(out);
+            for message in ufo::read_up(packet)? {
+                upstream.add(&message)?;
+            }
+            Ok(upstream.packet().len())
+        },
+        flat::hp_ufo_read_up,
+    );
+}
+
+#[test]
 fn memx_packets_come_back() {
     round_trips(
         |dice| make::memx(make::number(dice), make::number(dice), dice),

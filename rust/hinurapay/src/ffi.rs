@@ -57,8 +57,8 @@ functions! {
     hp_ufo_read_down(lent packet) -> hp_read;
     /// Reads a whole UFO packet from the client: type 0, and as count its messages.
     hp_ufo_read_up(lent packet) -> hp_read;
-    /// Reads the UFO message from the client whose block stands at place; a place at or past the end
-    /// is 4.
+    /// Reads the UFO message from the client whose block starts at place; refused as
+    /// [`hp_ufo_read_up`] refuses the packet, then 4 where no block starts there.
     hp_ufo_read_message(lent packet, place: u64) -> hp_read;
     /// Reads a MEMX-UDP packet.
     hp_memx_read(lent packet) -> hp_read;
@@ -72,12 +72,17 @@ functions! {
     /// Writes one UFO message from the client as a block; refused as the packet of that one block
     /// would be.
     hp_ufo_write_message(fields: hp_packet, lent body, room out) -> hp_wrote;
+    /// Adds one UFO message more behind the packet from the client, or nothing, that the output's
+    /// first `used` bytes are, and says how many bytes the whole has. Refused: 4 for `used` past the
+    /// output's end; as [`hp_ufo_read_up`] refuses what is there, if it is not empty; as it would
+    /// refuse the whole; then 9.
+    hp_ufo_add_message(fields: hp_packet, lent body, room out, used: u64) -> hp_wrote;
     /// Writes a MEMX-UDP packet.
     hp_memx_write(fields: hp_packet, lent body, room out) -> hp_wrote;
 
-    /// Opens a record of a UFO session.
+    /// Opens a record of a UFO session; its `session` is 0.
     hp_open_ufo(name: &[u8; 10]) -> hp_opened;
-    /// Opens a record of a MEMX-UDP session.
+    /// Opens a record of a MEMX-UDP session; its `name` is zeros.
     hp_open_memx(session: u64) -> hp_opened;
     /// Takes a datagram and delivers what is next.
     hp_take(record: hp_record, lent datagram, room out) -> hp_taken;
@@ -97,6 +102,8 @@ functions! {
 
     /// Adds a message to the log.
     hp_log_add(log: hp_log, room bytes, lent message) -> hp_logged;
+    /// Adds many messages to the log at once, given as their blocks, all of them or none.
+    hp_log_add_many(log: hp_log, room bytes, lent blocks) -> hp_logged;
     /// Declares the log's end.
     hp_log_declare_end(log: hp_log, lent bytes) -> hp_logged;
     /// Answers a request for `count` messages from `first` on.

@@ -1,8 +1,8 @@
 //! The lending end: a log of messages in lent bytes, and UFO packets out of it.
 
 use crate::flat::{
-    hp_log, hp_log_add, hp_log_answer, hp_log_declare_end, hp_log_end_packet, hp_log_heartbeat,
-    hp_logged,
+    hp_log, hp_log_add, hp_log_add_many, hp_log_answer, hp_log_declare_end, hp_log_end_packet,
+    hp_log_heartbeat, hp_logged,
 };
 use crate::kinds::Sequence;
 use crate::refusal::{taken, written, Refusal};
@@ -83,6 +83,26 @@ impl<'a> Log<'a> {
     #[inline]
     pub fn add(&mut self, message: &[u8]) -> Result<(), Refusal> {
         let logged = hp_log_add(self.log, self.bytes, message);
+        self.keep(logged)
+    }
+
+    /// Adds many messages in one pass, given as their blocks, all of them or none; 13, 4 if the blocks
+    /// don't end exactly at the end, 2 (any over 1,463 bytes), 7, 9. None at all change nothing.
+    ///
+    /// ```
+    /// use hinurapay::{Log, Refusal};
+    ///
+    /// let mut bytes = [0; 10];
+    /// let mut log = Log::over(&mut bytes);
+    /// log.add_many(b"\0\x02HI\0\0")?;
+    /// assert_eq!((log.count(), log.blocks()), (2, &b"\0\x02HI\0\0"[..]));
+    /// assert_eq!(log.add_many(b"\0\0\0\x01"), Err(Refusal::Framing));
+    /// assert_eq!(log.add_many(b"\0\0\0\x01!"), Err(Refusal::Room));
+    /// assert_eq!(log.count(), 2, "not even the first was added");
+    /// # Ok::<(), hinurapay::Refusal>(())
+    /// ```
+    pub fn add_many(&mut self, blocks: &[u8]) -> Result<(), Refusal> {
+        let logged = hp_log_add_many(self.log, self.bytes, blocks);
         self.keep(logged)
     }
 

@@ -2,8 +2,8 @@
 
 use crate::blocks::part;
 use crate::flat::{
-    hp_packet, hp_ufo_read_down, hp_ufo_read_message, hp_ufo_read_up, hp_ufo_write_down,
-    hp_ufo_write_message,
+    hp_next_block, hp_packet, hp_ufo_add_message, hp_ufo_read_down, hp_ufo_read_message,
+    hp_ufo_read_up, hp_ufo_write_down, hp_ufo_write_message,
 };
 use crate::kinds::{Name, Password, Reason, Sequence, User};
 use crate::refusal::{taken, written, Refusal};
@@ -137,18 +137,21 @@ pub fn write_down(packet: &Down<'_>, out: &mut [u8]) -> Result<usize, Refusal> {
 /// The messages of one packet from the client, all of which are lawful.
 #[derive(Clone, Debug)]
 pub struct Messages<'a> {
-    packet: &'a [u8],
-    place: u64,
-    left: u16,
+    blocks: &'a [u8],
 }
 
 impl<'a> Iterator for Messages<'a> {
     type Item = Up<'a>;
 
     fn next(&mut self) -> Option<Up<'a>> {
-        self.left = self.left.checked_sub(1)?;
-        let fields = hp_ufo_read_message(self.packet, self.place).packet;
-        self.place = fields.next;
+        if self.blocks.is_empty() {
+            return None;
+        }
+        // a block alone is a packet too, so that not all of them are read again for each
+        let next = hp_next_block(self.blocks, 0).next as usize;
+        let (block, rest) = self.blocks.split_at(next);
+        self.blocks = rest;
+        let fields = hp_ufo_read_message(block, 0).packet;
         Some(match fields.r#type {
             b'L' => Up::Login {
                 user: User(fields.user),
@@ -159,7 +162,7 @@ impl<'a> Iterator for Messages<'a> {
                 first: Sequence(fields.number),
                 count: fields.count,
             },
-            b'U' => Up::Unsequenced(part(self.packet, fields.start, fields.length)),
+            b'U' => Up::Unsequenced(part(block, fields.start, fields.length)),
             b'R' => Up::Heartbeat,
             _ => Up::Logoff,
         })
@@ -182,29 +185,73 @@ impl<'a> Iterator for Messages<'a> {
 /// ```
 pub fn read_up(packet: &[u8]) -> Result<Messages<'_>, Refusal> {
     let read = hp_ufo_read_up(packet);
-    let messages = Messages {
-        packet,
-        place: 0,
-        left: read.packet.count,
-    };
-    taken(read.refusal, messages)
+    taken(read.refusal, Messages { blocks: packet })
 }
 
-/// Writes one message from the client as a block; refused as the packet of that one block would be,
-/// then 9. A packet is one or more such blocks.
+/// Writes one message from the client as a packet of its own, and says how many bytes it has;
+/// refused as a reader would refuse it, then 9. For several messages there is [`Upstream`].
 ///
 /// ```
 /// use hinurapay::ufo::{write_message, Up};
-/// use hinurapay::Sequence;
 ///
-/// let mut packet = [0; 12];
-/// let request = Up::Request { first: Sequence(3), count: 2 };
-/// let length = write_message(&request, &mut packet)?;
-/// write_message(&Up::Heartbeat, &mut packet[length..])?;
-/// assert_eq!(&packet, b"\0\x07T\0\0\0\x03\0\x02\0\x01R");
-/// # Ok::<(), hinurapay::Refusal>(())
+/// let mut out = [0; 8];
+/// assert_eq!(write_message(&Up::Unsequenced(b"hello"), &mut out), Ok(8));
+/// assert_eq!(&out, b"\0\x06Uhello");
 /// ```
 pub fn write_message(message: &Up<'_>, out: &mut [u8]) -> Result<usize, Refusal> {
+    let (fields, data) = flat(message);
+    written(hp_ufo_write_message(fields, data, out))
+}
+
+/// A packet from the client, put together message by message over bytes that are lent to it.
+///
+/// ```
+/// use hinurapay::ufo::{Up, Upstream};
+/// use hinurapay::{Refusal, Sequence};
+///
+/// let mut bytes = [0; 14];
+/// let mut upstream = Upstream::over(&mut bytes);
+/// upstream.add(&Up::Request { first: Sequence(3), count: 2 })?;
+/// upstream.add(&Up::Heartbeat)?;
+/// assert_eq!(upstream.packet(), b"\0\x07T\0\0\0\x03\0\x02\0\x01R");
+///
+/// // what is refused leaves the packet as it was
+/// let request = Up::Request { first: Sequence(0), count: 2 };
+/// assert_eq!(upstream.add(&request), Err(Refusal::Blank));
+/// assert_eq!(upstream.add(&Up::Unsequenced(&[0; 1458])), Err(Refusal::Oversize));
+/// assert_eq!(upstream.add(&Up::Logoff), Err(Refusal::Room));
+/// assert_eq!(upstream.packet().len(), 12);
+/// # Ok::<(), hinurapay::Refusal>(())
+/// ```
+#[derive(Debug)]
+pub struct Upstream<'a> {
+    bytes: &'a mut [u8],
+    used: usize,
+}
+
+impl<'a> Upstream<'a> {
+    /// A packet without a message yet; one with none is not lawful.
+    pub fn over(bytes: &'a mut [u8]) -> Upstream<'a> {
+        Upstream { bytes, used: 0 }
+    }
+
+    /// Adds a message behind the others; refused as a reader would refuse the whole packet, so that
+    /// over 1,472 bytes in all are 2; then 9.
+    pub fn add(&mut self, message: &Up<'_>) -> Result<(), Refusal> {
+        let (fields, data) = flat(message);
+        let wrote = hp_ufo_add_message(fields, data, self.bytes, self.used as u64);
+        self.used = written(wrote)?;
+        Ok(())
+    }
+
+    /// The packet so far.
+    pub fn packet(&self) -> &[u8] {
+        &self.bytes[..self.used]
+    }
+}
+
+/// A message's fields and data as the C face has them.
+fn flat<'a>(message: &Up<'a>) -> (hp_packet, &'a [u8]) {
     let mut fields = hp_packet::default();
     let (kind, data): (u8, &[u8]) = match *message {
         Up::Login {
@@ -227,5 +274,5 @@ pub fn write_message(message: &Up<'_>, out: &mut [u8]) -> Result<usize, Refusal>
         Up::Logoff => (b'O', &[]),
     };
     fields.r#type = kind;
-    written(hp_ufo_write_message(fields, data, out))
+    (fields, data)
 }

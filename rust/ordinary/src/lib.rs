@@ -19,8 +19,8 @@
 //!
 //! # Where the paper is silent
 //!
-//! - Reading one upstream message at a place: 1 and 2 are about the whole packet that is lent,
-//!   everything else about the block at that place only, wherever the place lies.
+//! - Reading one upstream message at a place: the whole packet is read first, as it is read without
+//!   a place; then a place inside a block, whatever seems to stand there, is 4.
 //! - A block's `start` is where its data begin, past the two length bytes.
 //! - A heartbeat `S`, and any packet whose payload is empty, still says where its blocks or its
 //!   payload would begin; the length is 0.

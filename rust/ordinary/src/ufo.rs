@@ -4,7 +4,7 @@ mod down;
 mod up;
 
 pub use down::{read_down, write_down, Down, DATA_HEADER};
-pub use up::{read_message, read_up, write_message, Up};
+pub use up::{read_message, read_up, write_message, Packet, Up};
 
 use crate::refusal::Refusal;
 

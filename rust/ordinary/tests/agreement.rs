@@ -172,51 +172,64 @@ fn laid(protocol: usize, fields: &hp_packet, body: &[u8]) -> (Vec<u8>, bool) {
     (packet, wide && narrow)
 }
 
+/// The types of each protocol, and some that it has not.
+const TYPES: [&[u8]; 4] = [b"AJSEX", b"LTUROX", &[0, 1, 2, 3], b"+SUHZROJALX\n"];
+
+/// Fields to be written, with anything in each.
+fn any_fields(protocol: usize, dice: &mut Dice) -> hp_packet {
+    let name = [b"8841      ", b"      8841", b"          ", b"8 841     "];
+    let mut fields = hp_packet {
+        r#type: dice.pick(TYPES[protocol]),
+        reason: dice.pick(b"ASB\n"),
+        count: dice.pick(&[0, 1, 2, u16::MAX]),
+        user: *dice.pick(&[b"user1 ", b"      ", b" user "]),
+        password: *dice.pick(&[b"password  ", b"          ", b" password "]),
+        name: *dice.pick(&name),
+        session: dice.roll(),
+        number: dice.pick(&[
+            0,
+            1,
+            77,
+            u64::from(u32::MAX) - 1,
+            u64::from(u32::MAX),
+            u64::from(u32::MAX) + 1,
+            u64::MAX - 1,
+            u64::MAX,
+        ]),
+        start: dice.roll(),
+        length: dice.roll(),
+        next: dice.roll(),
+    };
+    if dice.one_in(12) {
+        fields.name[dice.below(10)] = dice.pick(b"\n-\0");
+    }
+    fields
+}
+
+/// A body to be written, at times one that brings the packet near its limit.
+fn any_body(limit: usize, dice: &mut Dice) -> Vec<u8> {
+    let messages = [&b""[..], b"a", b"bc"];
+    match dice.below(6) {
+        0 => blocks(&messages[..1 + dice.below(2)]),
+        1 => dice.pick(&[&b"abc"[..], b"a\nb", b"\0"]).to_vec(),
+        2 => vec![0; limit - dice.below(50)],
+        3 => {
+            let length = limit - 2 - dice.below(30);
+            blocks(&[&vec![b'x'; length]])
+        }
+        _ => vec![],
+    }
+}
+
 #[test]
 fn a_writer_refuses_as_the_reader_would_refuse_the_packet() {
-    let types: [&[u8]; 4] = [b"AJSEX", b"LTUROX", &[0, 1, 2, 3], b"+SUHZROJALX\n"];
     for (protocol, (read, write)) in PROTOCOLS.into_iter().enumerate() {
         let mut dice = Dice::seeded(1000 + protocol as u64);
         let limit = if protocol == 3 { 4098 } else { 1472 };
         let mut seen = [0; 9];
         for _ in 0..10_000 {
-            let name = [b"8841      ", b"      8841", b"          ", b"8 841     "];
-            let mut fields = hp_packet {
-                r#type: dice.pick(types[protocol]),
-                reason: dice.pick(b"ASB\n"),
-                count: dice.pick(&[0, 1, 2, u16::MAX]),
-                user: *dice.pick(&[b"user1 ", b"      ", b" user "]),
-                password: *dice.pick(&[b"password  ", b"          ", b" password "]),
-                name: *dice.pick(&name),
-                session: dice.roll(),
-                number: dice.pick(&[
-                    0,
-                    1,
-                    77,
-                    u64::from(u32::MAX) - 1,
-                    u64::from(u32::MAX),
-                    u64::from(u32::MAX) + 1,
-                    u64::MAX - 1,
-                    u64::MAX,
-                ]),
-                start: dice.roll(),
-                length: dice.roll(),
-                next: dice.roll(),
-            };
-            if dice.one_in(12) {
-                fields.name[dice.below(10)] = dice.pick(b"\n-\0");
-            }
-            let messages = [&b""[..], b"a", b"bc"];
-            let body = match dice.below(6) {
-                0 => blocks(&messages[..1 + dice.below(2)]),
-                1 => dice.pick(&[&b"abc"[..], b"a\nb", b"\0"]).to_vec(),
-                2 => vec![0; limit - dice.below(50)],
-                3 => {
-                    let length = limit - 2 - dice.below(30);
-                    blocks(&[&vec![b'x'; length]])
-                }
-                _ => vec![],
-            };
+            let fields = any_fields(protocol, &mut dice);
+            let body = any_body(limit, &mut dice);
             let (packet, wide) = laid(protocol, &fields, &body);
             let expected = match read(&packet).refusal {
                 0 if wide => 7,
@@ -236,6 +249,69 @@ fn a_writer_refuses_as_the_reader_would_refuse_the_packet() {
             let never = protocol == 3 && refusal == 7;
             assert_eq!(seen[refusal] == 0, never, "{refusal} in {protocol}");
         }
+    }
+}
+
+/// Nothing, or a packet from the client of one or two messages, which may be damaged or long.
+fn begun(dice: &mut Dice) -> Vec<u8> {
+    let mut packet = match dice.below(4) {
+        0 => return vec![],
+        1 => blocks(&[&vec![b'U'; 1400 + dice.below(75)]]),
+        _ => [specimen(1, dice), specimen(1, dice)].concat(),
+    };
+    damage(&mut packet, dice);
+    packet
+}
+
+/// How adding a message must be refused: by what the reader says of the packet before and after.
+fn refused_in_adding(before: &[u8], message: &(Vec<u8>, bool), used: usize, room: usize) -> u64 {
+    if used > room {
+        return 4;
+    }
+    let there = hp_ufo_read_up(&before[..used]).refusal;
+    if used > 0 && there != 0 {
+        return there;
+    }
+    let whole = [&before[..used], &message.0].concat();
+    match hp_ufo_read_up(&whole).refusal {
+        0 if message.1 => 7,
+        0 if whole.len() > room => 9,
+        refusal => refusal,
+    }
+}
+
+#[test]
+fn adding_refuses_as_the_reader_would_refuse_the_packets_before_and_after() {
+    let mut dice = Dice::seeded(1472);
+    let mut seen = [0; 10];
+    for _ in 0..20_000 {
+        let mut out = begun(&mut dice);
+        let used = match dice.below(8) {
+            0 => dice.below(out.len() + 5),
+            _ => out.len(),
+        };
+        let spare = dice.pick(&[0, 3, 9, 29, 1500]);
+        out.extend(vec![0xee; spare]);
+        let fields = any_fields(1, &mut dice);
+        let left = 1472_usize.saturating_sub(used).max(50);
+        let body = any_body(left, &mut dice);
+        let message = laid(1, &fields, &body);
+        let before = out.clone();
+        let expected = refused_in_adding(&before, &message, used, out.len());
+        seen[expected as usize] += 1;
+        let wrote = hp_ufo_add_message(fields, &body, &mut out, used as u64);
+        assert_eq!(wrote.refusal, expected, "{fields:?} behind {used}");
+        let whole = if expected == 0 {
+            [&before[..used], &message.0].concat()
+        } else {
+            vec![]
+        };
+        assert_eq!(wrote.bytes, whole.len() as u64);
+        assert_eq!(out[..whole.len()], whole);
+        assert_eq!(out[whole.len()..], before[whole.len()..]);
+    }
+    for refusal in [0, 2, 3, 4, 5, 6, 7, 9] {
+        assert!(seen[refusal] > 50, "{refusal} came {} times", seen[refusal]);
     }
 }
 

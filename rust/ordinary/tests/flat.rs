@@ -201,13 +201,24 @@ fn upstream_is_read() {
     ] {
         assert_eq!(hp_ufo_read_message(&packet, place), yes(read), "{place}");
     }
-    for place in [49, 50, 51, u64::MAX] {
+    for place in [1, 43, 49, 50, 51, u64::MAX] {
         assert_eq!(hp_ufo_read_message(&packet, place), no(4), "{place}");
     }
-    assert_eq!(hp_ufo_read_up(b""), no(1));
-    assert_eq!(hp_ufo_read_up(&blocks(&[b"R", b"X"])), no(3));
-    assert_eq!(hp_ufo_read_message(b"", 0), no(1));
-    assert_eq!(hp_ufo_read_message(&[0; 1473], 0), no(2));
+}
+
+#[test]
+fn a_message_is_read_only_from_a_packet_that_is_read() {
+    assert_eq!(hp_ufo_read_message(b"\0\x04U\0\x01R", 3), no(4));
+    for (packet, refusal) in [
+        (b"".to_vec(), 1),
+        (vec![0; 1473], 2),
+        (blocks(&[b"R", b"X"]), 3),
+        (b"\0\x01R\0".to_vec(), 4),
+        (blocks(&[b"R", b"T\0\0\0\0\0\x01"]), 6),
+    ] {
+        assert_eq!(hp_ufo_read_up(&packet), no(refusal));
+        assert_eq!(hp_ufo_read_message(&packet, 0), no(refusal));
+    }
 }
 
 #[test]
@@ -424,6 +435,73 @@ fn a_number_that_its_field_cannot_hold_is_7_in_its_turn() {
             "{fields:?}"
         );
     }
+}
+
+/// Adds a message behind the output's first `used` bytes, which must all be as before on a refusal.
+fn add(fields: hp_packet, body: &[u8], out: &mut [u8], used: u64) -> hp_wrote {
+    let before = out.to_vec();
+    let wrote = hp_ufo_add_message(fields, body, out, used);
+    if wrote.refusal != 0 {
+        assert_eq!(out, before);
+    }
+    wrote
+}
+
+#[test]
+fn a_message_is_added_behind_the_others() {
+    let request = hp_packet {
+        number: 3,
+        count: 2,
+        ..kind(b'T')
+    };
+    let mut out = [0xee; 20];
+    assert_eq!(add(request, b"", &mut out, 0), wrote(0, 9));
+    assert_eq!(add(kind(b'U'), b"hi", &mut out, 9), wrote(0, 14));
+    assert_eq!(add(kind(b'R'), b"", &mut out[..16], 14), wrote(9, 0));
+    assert_eq!(add(kind(b'R'), b"", &mut out[..17], 14), wrote(0, 17));
+    assert_eq!(out[..17], *b"\0\x07T\0\0\0\x03\0\x02\0\x03Uhi\0\x01R");
+    assert_eq!(out[17..], [0xee; 3]);
+}
+
+#[test]
+fn what_adding_refuses_comes_in_order() {
+    let mut full = blocks(&[&[b'U'; 1400]]); // of 1,402 bytes
+    full.resize(3000, 0xee);
+    let mut unlawful = blocks(&[b"X"]);
+    unlawful.resize(3000, 0xee);
+    let wide = hp_packet {
+        number: 1 << 32,
+        count: 1,
+        ..kind(b'T')
+    };
+    let nought = hp_packet { count: 0, ..wide };
+    for (fields, body, refusal) in [
+        (kind(b'X'), 67, 3),
+        (kind(b'X'), 68, 2),
+        (kind(b'X'), 70_000, 2),
+        (kind(b'R'), 1, 4),
+        (kind(b'R'), 67, 4),
+        (kind(b'R'), 68, 2),
+        (kind(b'L'), 41, 4),
+        (kind(b'L'), 42, 2),
+        (kind(b'L'), 0, 5),
+        (wide, 61, 4),
+        (wide, 62, 2),
+        (nought, 0, 6),
+        (wide, 0, 7),
+        (kind(b'U'), 68, 2),
+    ] {
+        let body = vec![b'!'; body];
+        let added = |out: &mut [u8], used| add(fields, &body, out, used);
+        assert_eq!(added(&mut full, 1402), wrote(refusal, 0), "{fields:?}");
+        assert_eq!(added(&mut full[..1402], 1402), wrote(refusal, 0));
+        assert_eq!(added(&mut full, 1401), wrote(4, 0), "what is there");
+        assert_eq!(added(&mut unlawful, 3), wrote(3, 0), "what is there");
+        assert_eq!(added(&mut unlawful, 3001), wrote(4, 0), "past the end");
+        assert_eq!(added(&mut unlawful, u64::MAX), wrote(4, 0));
+        assert_eq!(added(&mut full, 3000), wrote(2, 0), "what is there");
+    }
+    assert_eq!(add(kind(b'U'), &[0; 67], &mut full, 1402), wrote(0, 1472));
 }
 
 const RECORD: hp_record = hp_record {
@@ -850,5 +928,41 @@ fn a_log_is_handed_back_on_a_refusal() {
             assert_eq!(hp_log_end_packet(log, &lent, &mut out), wrote(10, 0));
             assert_eq!(out, [0xee; 1472]);
         }
+    }
+}
+
+#[test]
+fn many_messages_are_lent_together() {
+    let one = hp_log {
+        count: 1,
+        used: 4,
+        ended: 0,
+    };
+    let mut bytes = *b"\0\x02HI......";
+    let three = hp_log_add_many(one, &mut bytes, b"\0\0\0\x01!");
+    assert_eq!(three.refusal, 0);
+    assert_eq!(
+        (three.log.count, three.log.used, three.log.ended),
+        (3, 9, 0)
+    );
+    assert_eq!(bytes, *b"\0\x02HI\0\0\0\x01!.");
+    assert_eq!(hp_log_add_many(three.log, &mut bytes[..9], b""), three);
+
+    let lent = bytes;
+    let long = blocks(&[&[0; 1464]]);
+    let long_and_cut = [&long[..], b"\0"].concat();
+    for (log, many, refusal) in [
+        (hp_log { ended: 2, ..one }, &long_and_cut[..], 10),
+        (hp_log { used: 5, ..one }, b"", 10),
+        (hp_log { ended: 1, ..one }, &long_and_cut, 13),
+        (hp_log { ended: 1, ..one }, b"", 13),
+        (one, &long_and_cut, 4),
+        (one, b"\0\0\0\x06ABCDE", 4),
+        (one, &long, 2),
+        (one, b"\0\0\0\x03ABC", 9),
+    ] {
+        let refused = hp_logged { refusal, log };
+        assert_eq!(hp_log_add_many(log, &mut bytes, many), refused);
+        assert_eq!(bytes, lent);
     }
 }

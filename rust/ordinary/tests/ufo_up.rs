@@ -4,7 +4,7 @@ mod common;
 
 use common::{blocks, number, written};
 use ordinary::kinds::{Name, Password, Sequence, User};
-use ordinary::ufo::{read_message, read_up, write_message, Up};
+use ordinary::ufo::{read_message, read_up, write_message, Packet, Up};
 
 const LOGIN: &[u8] = b"Luser1 password  8841      ";
 
@@ -129,24 +129,49 @@ fn what_the_message_reader_refuses() {
 }
 
 #[test]
-fn the_message_reader_looks_at_its_own_block_only() {
-    let packet = [&blocks(&[b"R", b"X"])[..], b"\0\x09"].concat();
-    assert_eq!(number(read_up(&packet)), 4);
-    assert_eq!(read_message(&packet, 0), Ok((Up::Heartbeat, 3)));
-    assert_eq!(number(read_message(&packet, 3)), 3);
-    assert_eq!(number(read_message(&packet, 6)), 4);
+fn the_message_reader_refuses_as_the_packet_reader_whatever_the_place() {
+    let nought = b"T\0\0\0\0\0\x01";
+    let cases: &[(&[u8], u8)] = &[
+        (b"\0\x01R\0", 4),
+        (b"\0\x01R\0\0", 4),
+        (&[&blocks(&[b"R", b"X"])[..], b"\0\x09"].concat(), 4),
+        (&blocks(&[b"R", b"X"]), 3),
+        (&blocks(&[b"R", b"O "]), 4),
+        (&blocks(&[b"R", b"L user password  8841      "]), 5),
+        (&blocks(&[b"R", nought, b"X"]), 6),
+    ];
+    for (packet, refusal) in cases {
+        assert_eq!(number(read_up(packet)), *refusal, "{packet:?}");
+        for place in 0..packet.len() + 2 {
+            let read = read_message(packet, place);
+            assert_eq!(number(read), *refusal, "{packet:?} at {place}");
+        }
+    }
+}
+
+#[test]
+fn a_block_inside_a_message_is_not_the_packet_s() {
+    let packet = b"\0\x04U\0\x01R";
+    assert_eq!(
+        read_message(packet, 0),
+        Ok((Up::Unsequenced(b"\0\x01R"), 6))
+    );
+    for place in 1..8 {
+        assert_eq!(number(read_message(packet, place)), 4, "{place}");
+    }
 }
 
 fn write(message: Up) -> Result<Vec<u8>, u8> {
     written(|slip| write_message(&message, slip))
 }
 
+fn request(first: u64, count: u16) -> Up<'static> {
+    let first = Sequence(first);
+    Up::Request { first, count }
+}
+
 #[test]
 fn what_a_writer_refuses() {
-    let request = |first, count| Up::Request {
-        first: Sequence(first),
-        count,
-    };
     let login = |user: &[u8; 6], password: &[u8; 10], session: &[u8; 10]| Up::Login {
         user: User(*user),
         password: Password(*password),
@@ -168,6 +193,94 @@ fn what_a_writer_refuses() {
     for (message, refusal) in cases {
         assert_eq!(write(message), Err(refusal), "{message:?}");
     }
+}
+
+/// Adds a message behind the slip's first `used` bytes: the packet, or the refusal's number. All
+/// bytes but those of the message, and on a refusal those too, must be as before.
+fn add(slip: &[u8], used: usize, message: Up) -> Result<Vec<u8>, u8> {
+    let mut after = slip.to_vec();
+    match Packet::begun(&mut after, used).and_then(|mut packet| packet.add(&message)) {
+        Ok(bytes) => {
+            assert_eq!(after[..used], slip[..used]);
+            assert_eq!(after[bytes..], slip[bytes..]);
+            after.truncate(bytes);
+            Ok(after)
+        }
+        Err(refusal) => {
+            assert_eq!(after, slip);
+            Err(refusal.number())
+        }
+    }
+}
+
+#[test]
+fn a_packet_is_put_together_message_by_message() {
+    let whole = blocks(&[LOGIN, b"T\0\0\0\x03\0\x02", b"U", b"U\0\n!", b"R", b"O"]);
+    let mut slip = vec![0xee; whole.len()];
+    let mut place = 0;
+    while place < whole.len() {
+        let (message, next) = read_message(&whole, place).unwrap();
+        assert_eq!(add(&slip[..next - 1], place, message), Err(9));
+        let packet = add(&slip, place, message).unwrap();
+        assert_eq!(packet, whole[..next]);
+        slip[..next].copy_from_slice(&packet);
+        place = next;
+    }
+    assert_eq!(add(&slip, place, Up::Heartbeat), Err(9));
+    let mut packet = Packet::begun(&mut slip, 0).unwrap();
+    assert_eq!(packet.add(&Up::Logoff), Ok(3));
+    assert_eq!(packet.add(&Up::Heartbeat), Ok(6));
+    assert_eq!(slip[..6], *b"\0\x01O\0\x01R");
+}
+
+#[test]
+fn what_adding_refuses() {
+    let nothing = request(0, 1);
+    let over = Up::Unsequenced(&[0; 1470]);
+    let full = blocks(&[&[b'U'; 1470]]);
+    let cases: &[(&[u8], usize, Up, u8)] = &[
+        // past the end, before anything else
+        (b"", 1, Up::Heartbeat, 4),
+        (b"\0\x01X", 4, over, 4),
+        (b"\0\x01X", usize::MAX, over, 4),
+        // what is there, before the message
+        (b"\0\x01X", 3, over, 3),
+        (b"\0\x01R", 2, over, 4),
+        (b"\0\x01R", 1, Up::Heartbeat, 4),
+        (b"\0\x02R ", 4, nothing, 4),
+        (&blocks(&[b"L user password  8841      "]), 29, nothing, 5),
+        (&blocks(&[b"T\0\0\0\0\0\x01"]), 9, over, 6),
+        (&[0; 1473], 1473, nothing, 2),
+        // the whole
+        (b"", 0, over, 2),
+        (b"\0\x01R", 3, Up::Unsequenced(&[0; 1467]), 2),
+        (&full, 1472, nothing, 2),
+        (b"\0\x01R", 3, nothing, 6),
+        (b"\0\x01R", 3, request(1 << 32, 1), 7),
+        // and then the room
+        (b"\0\x01R", 3, Up::Unsequenced(&[0; 1466]), 9),
+        (b"\0\x01R..", 3, Up::Logoff, 9),
+        (b"..", 0, Up::Logoff, 9),
+    ];
+    for (slip, used, message, refusal) in cases {
+        let added = add(slip, *used, *message);
+        assert_eq!(
+            added,
+            Err(*refusal),
+            "{message:?} behind {used} of {slip:?}"
+        );
+    }
+}
+
+#[test]
+fn a_packet_is_filled_to_its_last_byte() {
+    let slip = [&blocks(&[&[b'U'; 1467]])[..], b"......"].concat();
+    assert_eq!(add(&slip, 1469, Up::Logoff).unwrap().len(), 1472);
+    assert_eq!(add(&slip, 1469, Up::Unsequenced(b"!")), Err(2));
+    assert_eq!(
+        add(&slip, 0, Up::Unsequenced(&[7; 1469])).unwrap().len(),
+        1472
+    );
 }
 
 #[test]

@@ -21,7 +21,7 @@ abbrev μ-loop : tie.MeasureT-loop
 step : (c : tie.Else1 Inv-loop μ-loop) → let s = now (c .before .before .before .before .before .before .before .before .args .s) in let p = c .before .before .before .before .before .before .loop .at in let g = c .before .before .length .given .0 in Stands s p (g .1 .0) (g .1 .1 .0)
 step c =
     let g = c .before .before .length .given in
-    found (now (c .before .before .before .before .before .before .before .before .args .s)) (c .before .before .before .before .before .before .loop .at) (g .0 .0) (g .0 .1 .0) (g .0 .1 .1 .0) (cc (c .before .before .before .before .next .ensures, g .1))
+    found (now (c .before .before .before .before .before .before .before .before .args .s)) (c .before .before .before .before .before .before .loop .at) (g .0 .0) (g .0 .1 .0) (g .0 .1 .1 .0) (sym (c .before .before .before .before .next .ensures) ∙ g .1)
 
 loop-holds : tie.Need-loop-holds Inv-loop μ-loop
 loop-holds c = (omega arith, omega arith, (λ _. refl), refl)
@@ -37,7 +37,7 @@ returns c =
     let l = c .before .before .before .before .before .before .loop in
     let s = now (c .before .before .before .before .before .before .before .before .args .s) in
     let g = c .before .before .length .given in
-    let f = found s (l .at) (g .0 .0) (g .0 .1 .0) (g .0 .1 .1 .0) (cc (c .before .before .before .before .next .ensures, g .1)) in
+    let f = found s (l .at) (g .0 .0) (g .0 .1 .0) (g .0 .1 .1 .0) (sym (c .before .before .before .before .next .ensures) ∙ g .1) in
     sym (count-some s (omega arith) ∙ l .inv .3 ∙ tally-empty s (l .at) (l .count) (f .2) (sym (f .1) ∙ c .if1 .taken))
 
 add-count : tie.Need-add-count Inv-loop μ-loop
@@ -66,7 +66,7 @@ returns-2 c =
     let l = c .before .before .before .before .before .loop in
     let s = now (c .before .before .before .before .before .before .before .args .s) in
     let g = c .before .n .given in
-    let f = missed s (l .at) (g .0 .0) (cc (c .before .before .before .next .ensures, g .1)) in
+    let f = missed s (l .at) (g .0 .0) (sym (c .before .before .before .next .ensures) ∙ g .1) in
     rw (f .0) (sym (count-some s (omega arith) ∙ l .inv .3 ∙ tally-torn s (l .at) (l .count) (omega arith) (f .1)))
 
 returns-3 : tie.Need-returns-3 Inv-loop μ-loop

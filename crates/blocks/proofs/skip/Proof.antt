@@ -1,5 +1,5 @@
 use Prim.Native.Nat.{ℕ, suc, _-_, _≤_, _<_}
-use mathlib.Core.Path.{_≡_, ap, _∙_}
+use mathlib.Core.Path.{_≡_, ap, _∙_, sym}
 use denote.Ref.{now}
 use native.Mathlib.Omega.{arith}
 use borrow.Author.Needs.{needs}
@@ -40,9 +40,9 @@ loop-again c =
     let l = c .before .before .before .before .before .loop in
     let s = now (c .before .before .before .before .before .before .before .args .s) in
     let g = c .before .next2 .given in
-    let f = found s (l .at) (g .0 .0) (g .0 .1 .0) (g .0 .1 .1 .0) (cc (c .before .before .before .next .ensures, g .1)) in
-    let m : l .left ≡ suc (l .left - 1) = omega arith in
-    cc (l .inv, m, place-step s (l .at) (l .left - 1) (f .2), f .0)
+    let f = found s (l .at) (g .0 .0) (g .0 .1 .0) (g .0 .1 .1 .0) (sym (c .before .before .before .next .ensures) ∙ g .1) in
+    let e = l .inv ∙ ap (λ (k : ℕ). placeAfter k s (l .at)) (some (l .left) (c .before .before .before .before .loop-test .taken)) ∙ place-step s (l .at) (l .left - 1) (f .2) in
+    e ∙ ap (λ (t : ℕ). placeAfter (l .left - 1) s t) (sym (f .0))
 
 enum-known-n : tie.Need-enum-known-n Inv-loop μ-loop
 enum-known-n c = search needs
@@ -52,7 +52,7 @@ returns c =
     let l = c .before .before .before .before .before .loop in
     let s = now (c .before .before .before .before .before .before .before .args .s) in
     let g = c .before .n .given in
-    let f = missed s (l .at) (g .0 .0) (cc (c .before .before .before .next .ensures, g .1)) in
+    let f = missed s (l .at) (g .0 .0) (sym (c .before .before .before .next .ensures) ∙ g .1) in
     let e = l .inv ∙ ap (λ (k : ℕ). placeAfter k s (l .at)) (some (l .left) (c .before .before .before .before .loop-test .taken)) ∙ place-torn s (l .at) (l .left - 1) (f .1) in
     rw (e, f .0)
 

@@ -1,5 +1,6 @@
 use borrow.Author.Needs.{needs}
 use mathlib.Core.Path.{refl}
+use Rattle.flat_log.proofs.Entering.{enters}
 use Rattle.flat_log.proofs.add.Statement.{statement}
 use Rattle.flat_log.proofs.add.Tie as tie
 
@@ -22,7 +23,7 @@ same-length : tie.Need-same-length
 same-length c = search needs
 
 returns : tie.Need-returns
-returns c = rw (← c .before .before .before .before .before .before .before .is-flag .ensures, c .before .before .before .before .before .before .if1 .taken, ← c .before .before .before .before .before .log-of .ensures) (record { answer = rw (← c .before .before .before .add .ensures .answer) (c .flat-logged .ensures); bytes = c .before .before .before .add .ensures .bytes })
+returns c = rw (← c .before .before .before .before .before .before .before .is-flag .ensures, c .before .before .before .before .before .before .if1 .taken, ← c .before .before .before .before .before .log-of .ensures) (enters (c .before .before .before .add .ensures) (c .flat-logged .ensures))
 
 returns-2 : tie.Need-returns-2
 returns-2 c = rw (← c .before .before .is-flag .ensures, c .before .if1 .left) (record { answer = c .flat-logged2 .ensures; bytes = refl })

@@ -22,7 +22,7 @@ step : (c : tie.After-known-told Inv-loop μ-loop) → let d = c .before .before
 step c =
     let d = c .before .before .before .before .before in
     let g = c .before .next2 .given in
-    found (now (d .before .before .args .s)) (d .loop .end) (g .0 .0) (g .0 .1 .0) (g .0 .1 .1 .0) (cc (c .before .before .before .next .ensures, g .1))
+    found (now (d .before .before .args .s)) (d .loop .end) (g .0 .0) (g .0 .1 .0) (g .0 .1 .1 .0) (sym (c .before .before .before .next .ensures) ∙ g .1)
 
 loop-holds : tie.Need-loop-holds Inv-loop μ-loop
 loop-holds c =
@@ -77,7 +77,7 @@ returns-2 c =
     let l = c .before .before .before .before .loop in
     let a = c .before .before .before .before .before .before .args in
     let g = c .enum-told .given in
-    let f = missed (now (a .s)) (l .end) (g .0 .0) (cc (c .before .before .next .ensures, g .1)) in
+    let f = missed (now (a .s)) (l .end) (g .0 .0) (sym (c .before .before .next .ensures) ∙ g .1) in
     let e = ap (run (now (a .s)) (a .at) (l .end) (l .k)) (turn (a .count) (l .k) (omega arith)) in
     sym (l .inv .2 ∙ e ∙ run-torn (now (a .s)) (a .at) (l .end) (l .k) (a .count - (l .k + 1)) (f .1))
 

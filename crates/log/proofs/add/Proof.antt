@@ -1,21 +1,12 @@
-use Prim.Native.Nat.{_+_}
-use mathlib.Core.Path.{_≡_, _∙_}
-use mathlib.Core.List.{[], _∷_}
+use mathlib.Core.Path.{_≡_}
 use mathlib.Core.Bool.{true}
 use denote.Ref.{now}
 use native.Mathlib.Omega.{arith}
 use borrow.Author.Needs.{needs}
-use lib.ListN.{length, take, drop}
-use lib.Seq.{take-length}
-use Rattle.wire.specs.Checks.{taken}
 use Rattle.wire.proofs.Tests.{held, failed}
-use Rattle.wire.proofs.Settling.{stored-at}
-use Rattle.blocks.specs.Blocks.{frames}
-use Rattle.blocks.proofs.Frames.{length-one, stored-one}
-use Rattle.log.specs.Log.{hangs, fitting, adding, extended}
+use Rattle.log.specs.Log.{hangs}
 use Rattle.log.proofs.Hanging.{Hangs, hanging}
-use Rattle.log.proofs.Adding.{Fits}
-use Rattle.log.proofs.Entering.{refuses, enters, grows, too-long, too-many, no-room, takes-one, small-one, big-one}
+use Rattle.log.proofs.Entering.{refuses, one-broken, one-late, one-long, one-over, one-crowded, one-entered}
 use Rattle.log.proofs.add.Statement.{statement}
 use Rattle.log.proofs.add.Tie as tie
 
@@ -32,39 +23,33 @@ same-length : tie.Need-same-length
 same-length c = search needs
 
 returns : tie.Need-returns
-unfolding adding
-returns c = refuses _ _ 10 (rw (failed (c .before .hangs-together .ensures) (c .if1 .taken)))
+returns c =
+    let a = c .before .before .before .before .before .args in
+    refuses _ _ 10 (one-broken (a .log) (now (a .bytes)) (now (a .message)) (failed (c .before .hangs-together .ensures) (c .if1 .taken)))
 
 same-length-2 : tie.Need-same-length-2
 same-length-2 c = search needs
 
 returns-2 : tie.Need-returns-2
-unfolding adding
-returns-2 c = refuses _ _ 13 (rw (hung (c .before), c .if2 .taken))
+returns-2 c =
+    let a = c .before .before .before .before .before .before .args in
+    refuses _ _ 13 (one-late (a .log) (now (a .bytes)) (now (a .message)) (hung (c .before)) (c .if2 .taken))
 
 same-length-3 : tie.Need-same-length-3
 same-length-3 c = search needs
 
 returns-3 : tie.Need-returns-3
-unfolding adding
 returns-3 c =
     let a = c .before .before .before .before .before .before .before .args in
-    let m = now (a .message) in
-    refuses _ _ 2
-    (grows (a .log) (now (a .bytes)) _ (fitting (a .log) (now (a .bytes)) (m ∷ [])) (hung (c .before .before)) (c .before .if2 .left)
-    ∙ too-long (a .log) (now (a .bytes)) _ (m ∷ []) (big-one m (omega arith)))
+    refuses _ _ 2 (one-long (a .log) (now (a .bytes)) (now (a .message)) (hung (c .before .before)) (c .before .if2 .left) (c .if3 .taken))
 
 same-length-4 : tie.Need-same-length-4
 same-length-4 c = search needs
 
 returns-4 : tie.Need-returns-4
-unfolding adding
 returns-4 c =
     let a = c .before .before .before .before .before .before .before .before .args in
-    let m = now (a .message) in
-    refuses _ _ 7
-    (grows (a .log) (now (a .bytes)) _ (fitting (a .log) (now (a .bytes)) (m ∷ [])) (hung (c .before .before .before)) (c .before .before .if2 .left)
-    ∙ too-many (a .log) (now (a .bytes)) _ (m ∷ []) (small-one m (omega arith)) (omega arith))
+    refuses _ _ 7 (one-over (a .log) (now (a .bytes)) (now (a .message)) (hung (c .before .before .before)) (c .before .before .if2 .left) (c .before .if3 .left) (c .if4 .taken))
 
 sub-if5 : tie.Need-sub-if5
 sub-if5 c = known (c .before .before .before) .mark
@@ -76,15 +61,9 @@ same-length-5 : tie.Need-same-length-5
 same-length-5 c = search needs
 
 returns-5 : tie.Need-returns-5
-unfolding adding
 returns-5 c =
     let a = c .before .before .before .before .before .before .before .before .before .args in
-    let m = now (a .message) in
-    let h = known (c .before .before .before .before) in
-    let l = length-one m in
-    refuses _ _ 9
-    (grows (a .log) (now (a .bytes)) _ (fitting (a .log) (now (a .bytes)) (m ∷ [])) (hung (c .before .before .before .before)) (c .before .before .before .if2 .left)
-    ∙ no-room (a .log) (now (a .bytes)) _ (m ∷ []) (small-one m (omega arith)) (omega arith) (omega arith))
+    refuses _ _ 9 (one-crowded (a .log) (now (a .bytes)) (now (a .message)) (hung (c .before .before .before .before)) (c .before .before .before .if2 .left) (c .before .before .if3 .left) (c .before .if4 .left) (c .if5 .taken))
 
 cast-put2 : tie.Need-cast-put2
 cast-put2 c = search needs
@@ -114,25 +93,8 @@ returns-6 : tie.Need-returns-6
 returns-6 c =
     let d = c .before .before .before .before .before .before .before .before in
     let a = d .before .before .before .before .before .before .before .before .before .args in
-    let m = now (a .message) in
-    let s = now (a .bytes) in
-    let u = a .log .used in
-    let h = known (d .before .before .before .before) in
-    let l = length-one m in
-    let f : Fits (a .log) s (m ∷ []) = record {
-      hung = hung (d .before .before .before .before);
-      goes-on = d .before .before .before .if2 .left;
-      sizes = small-one m (omega arith);
-      count = omega arith;
-      room = omega arith;
-    } in
-    let e = stored-one s m u ∙ stored-at s (frames (m ∷ [])) u (f .room) in
-    let all : take (length m) (drop 0 m) ≡ m = take-length m in
-    let mark : u + 2 + length m ≡ u + length (frames (m ∷ [])) = omega arith in
-    enters _ _ (extended (a .log) s (m ∷ [])) _ _
-    (takes-one (a .log) s m f)
-    (rw mark)
-    (cc (e, all, c .before .before .copy .ensures, c .before .before .before .before .before .before .put2 .ensures))
+    one-entered (a .log) (now (a .bytes)) (now (a .message)) (hung (d .before .before .before .before)) (d .before .before .before .if2 .left) (d .before .before .if3 .left) (d .before .if4 .left) (d .if5 .left) _ _
+    (c .before .before .before .before .before .before .put2 .ensures) (c .before .before .copy .ensures)
 
 pub add-spec : {M : Type 1} → statement M
 add-spec =

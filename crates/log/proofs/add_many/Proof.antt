@@ -1,19 +1,12 @@
-use mathlib.Core.Path.{_≡_, ap, sym, _∙_}
+use mathlib.Core.Path.{_≡_, sym, _∙_}
 use mathlib.Core.Bool.{true}
 use denote.Ref.{now}
-use native.Mathlib.Omega.{arith}
 use borrow.Author.Needs.{needs}
-use lib.ListN.{length}
-use lib.Seq.{take-length}
-use Rattle.wire.specs.Checks.{taken}
-use Rattle.blocks.specs.Blocks.{frames, messagesOf}
 use Rattle.wire.proofs.Tests.{held, failed}
-use Rattle.wire.proofs.Settling.{stored-at}
-use Rattle.log.specs.Log.{hangs, toTheEnd, addingMany, extended}
+use Rattle.log.specs.Log.{hangs, toTheEnd}
 use Rattle.log.proofs.Hanging.{Hangs, hanging}
-use Rattle.log.proofs.Adding.{Fits}
-use Rattle.log.proofs.Entering.{refuses, enters, too-many, no-room, takes-many}
-use Rattle.log.proofs.Many.{Tallied, counted, not-counted, frames-all}
+use Rattle.log.proofs.Entering.{refuses, many-broken, many-late, many-over, many-crowded, many-entered, room-for}
+use Rattle.log.proofs.Many.{Tallied, counted, not-counted}
 use Rattle.log.proofs.add_many.Statement.{statement}
 use Rattle.log.proofs.add_many.Tie as tie
 
@@ -28,12 +21,6 @@ messages : (c : tie.After-known-told2) → Tallied (toTheEnd (now (c .before .be
 messages c =
     counted _ _ (sym (c .before .before .before .tally .ensures) ∙ c .before .more .given .1)
 
--- the blocks are those of the messages
-blocks : (c : tie.After-known-told2) → let f = now (c .before .before .before .before .before .before .before .before .before .before .args .framed) in frames (messagesOf (toTheEnd f)) ≡ f
-blocks c =
-    let f = now (c .before .before .before .before .before .before .before .before .before .before .args .framed) in
-    frames-all f (messagesOf (toTheEnd f)) (λ i. c .before .before .before .before .before .before .before .before .shared-slice-known .given i .fits) (messages c .cuts)
-
 hangs-together-requires : tie.Need-hangs-together-requires
 hangs-together-requires c κs = search needs
 
@@ -41,15 +28,17 @@ same-length : tie.Need-same-length
 same-length c = search needs
 
 returns : tie.Need-returns
-unfolding addingMany
-returns c = refuses _ _ 10 (rw (failed (c .before .hangs-together .ensures) (c .if1 .taken)))
+returns c =
+    let a = c .before .before .before .before .before .args in
+    refuses _ _ 10 (many-broken (a .log) (now (a .bytes)) (now (a .framed)) (failed (c .before .hangs-together .ensures) (c .if1 .taken)))
 
 same-length-2 : tie.Need-same-length-2
 same-length-2 c = search needs
 
 returns-2 : tie.Need-returns-2
-unfolding addingMany
-returns-2 c = refuses _ _ 13 (rw (hung (c .before), c .if2 .taken))
+returns-2 c =
+    let a = c .before .before .before .before .before .before .args in
+    refuses _ _ 13 (many-late (a .log) (now (a .bytes)) (now (a .framed)) (hung (c .before)) (c .if2 .taken))
 
 tally-requires : tie.Need-tally-requires
 tally-requires c κs = search needs
@@ -67,16 +56,10 @@ same-length-3 : tie.Need-same-length-3
 same-length-3 c = search needs
 
 returns-3 : tie.Need-returns-3
-unfolding addingMany
 returns-3 c =
     let d = c .before in
     let a = d .before .before .before .before .before .before .before .before .before .before .args in
-    let t = messages d in
-    let ms = messagesOf (toTheEnd (now (a .framed))) in
-    let h = known (d .before .before .before .before .before) in
-    refuses _ _ 7
-    (rw (hung (d .before .before .before .before .before), d .before .before .before .before .if2 .left, t .cuts)
-    (too-many (a .log) (now (a .bytes)) _ ms (t .sizes) (omega arith)))
+    refuses _ _ 7 (many-over (a .log) (now (a .bytes)) (now (a .framed)) (hung (d .before .before .before .before .before)) (d .before .before .before .before .if2 .left) _ (messages d) (c .if3 .taken))
 
 sub-if4 : tie.Need-sub-if4
 sub-if4 c = known (c .before .before .before .before .before .before) .mark
@@ -85,22 +68,16 @@ same-length-4 : tie.Need-same-length-4
 same-length-4 c = search needs
 
 returns-4 : tie.Need-returns-4
-unfolding addingMany
 returns-4 c =
     let d = c .before .before in
     let a = d .before .before .before .before .before .before .before .before .before .before .args in
-    let t = messages d in
-    let ms = messagesOf (toTheEnd (now (a .framed))) in
-    let h = known (d .before .before .before .before .before) in
-    let size : length (frames ms) ≡ length (now (a .framed)) = ap length (blocks d) in
-    refuses _ _ 9
-    (rw (hung (d .before .before .before .before .before), d .before .before .before .before .if2 .left, t .cuts)
-    (no-room (a .log) (now (a .bytes)) _ ms (t .sizes) (omega arith) (omega arith)))
+    refuses _ _ 9 (many-crowded (a .log) (now (a .bytes)) (now (a .framed)) (hung (d .before .before .before .before .before)) (d .before .before .before .before .if2 .left) _ (messages d) (c .before .if3 .left) (λ i. d .before .before .before .before .before .before .before .before .shared-slice-known .given i .fits) (c .if4 .taken))
 
 copy-requires : tie.Need-copy-requires
 copy-requires c κs =
-    let h = known (c .before .before .before .before .before .before .before .before) in
-    omega arith
+    let d = c .before .before .before .before .before .before .before .before in
+    let a = d .before .before .before .before .before .args in
+    room-for (a .log) (now (a .bytes)) (now (a .framed)) (known d) (c .before .if4 .left)
 
 add-t17 : tie.Need-add-t17
 add-t17 c = search needs
@@ -123,24 +100,7 @@ returns-6 : tie.Need-returns-6
 returns-6 c =
     let d = c .before .before .before .before .before .before in
     let a = d .before .before .before .before .before .before .before .before .before .before .args in
-    let t = messages d in
-    let h = known (d .before .before .before .before .before) in
-    let f = now (a .framed) in
-    let s = now (a .bytes) in
-    let ms = messagesOf (toTheEnd f) in
-    let size : length (frames ms) ≡ length f = ap length (blocks d) in
-    let g : Fits (a .log) s ms = record {
-      hung = hung (d .before .before .before .before .before);
-      goes-on = d .before .before .before .before .if2 .left;
-      sizes = t .sizes;
-      count = omega arith;
-      room = omega arith;
-    } in
-    let e = stored-at s f (a .log .used) (omega arith) in
-    enters _ _ (extended (a .log) s ms) _ _
-    (takes-many (a .log) s ms g f (t .cuts))
-    (rw (t .number, size))
-    (rw (blocks d) (cc (e, take-length f, c .before .before .copy .ensures)))
+    many-entered (a .log) (now (a .bytes)) (now (a .framed)) (hung (d .before .before .before .before .before)) (d .before .before .before .before .if2 .left) _ (messages d) (c .before .before .before .before .before .if3 .left) (λ i. d .before .before .before .before .before .before .before .before .shared-slice-known .given i .fits) (c .before .before .before .before .if4 .left) _ (c .before .before .copy .ensures)
 
 pub add-many-spec : {M : Type 1} → statement M
 add-many-spec =

@@ -1,13 +1,12 @@
-use Prim.Native.Nat.{suc, _-_, _≤_}
-use mathlib.Core.Path.{_≡_, refl}
+use Prim.Native.Nat.{_≤_}
+use mathlib.Core.Path.{_≡_, refl, sym, _∙_}
 use denote.Ref.{now}
 use native.Mathlib.Omega.{arith}
 use borrow.Author.Needs.{needs}
 use lib.ListN.{length, drop}
 use Rattle.blocks.specs.Blocks.{cut}
-use Rattle.blocks.proofs.Steps.{found, missed}
 use Rattle.log.specs.Log.{sound}
-use Rattle.log.proofs.Passes.{sound-step, sound-long, sound-torn, sound-end}
+use Rattle.log.proofs.Passes.{long-turn, good-turn, torn-turn, last-turn}
 use Rattle.log.proofs.is_sound.Statement.{statement}
 use Rattle.log.proofs.is_sound.Tie as tie
 
@@ -28,12 +27,10 @@ enum-known-length c = search needs
 
 returns : tie.Need-returns Inv-loop μ-loop
 returns c =
-    let l = c .before .before .before .before .before .before .loop in
-    let s = now (c .before .before .before .before .before .before .before .before .args .s) in
+    let d = c .before .before .before .before .before in
+    let l = d .before .loop in
     let g = c .before .before .length .given in
-    let f = found s (l .at) (g .0 .0) (g .0 .1 .0) (g .0 .1 .1 .0) (cc (c .before .before .before .before .next .ensures, g .1)) in
-    let m : l .left ≡ suc (l .left - 1) = omega arith in
-    cc (l .inv .1, m, sound-long s (l .at) (f .2) (l .left - 1) (omega arith))
+    sym (l .inv .1 ∙ long-turn (now (d .before .before .before .args .s)) (l .at) (l .left) (d .loop-test .taken) (g .0 .0) (g .0 .1 .0) (g .0 .1 .1 .0) (sym (c .before .before .before .before .next .ensures) ∙ g .1) (c .if1 .taken))
 
 sub-left : tie.Need-sub-left Inv-loop μ-loop
 sub-left c = search needs
@@ -43,30 +40,26 @@ loop-less c = search needs
 
 loop-again : tie.Need-loop-again Inv-loop μ-loop
 loop-again c =
-    let l = c .before .before .before .before .before .before .loop in
-    let s = now (c .before .before .before .before .before .before .before .before .args .s) in
+    let d = c .before .before .before .before .before in
+    let l = d .before .loop in
     let g = c .before .before .length .given in
-    let f = found s (l .at) (g .0 .0) (g .0 .1 .0) (g .0 .1 .1 .0) (cc (c .before .before .before .before .next .ensures, g .1)) in
-    let m : l .left ≡ suc (l .left - 1) = omega arith in
-    (omega arith, cc (l .inv .1, m, sound-step s (l .at) (f .2) (l .left - 1) (omega arith), f .0))
+    let t = good-turn (now (d .before .before .before .args .s)) (l .at) (l .left) (d .loop-test .taken) (g .0 .0) (g .0 .1 .0) (g .0 .1 .1 .0) (sym (c .before .before .before .before .next .ensures) ∙ g .1) (c .if1 .left) in
+    (t .0, l .inv .1 ∙ t .1)
 
 enum-told : tie.Need-enum-told Inv-loop μ-loop
 enum-told c = search needs
 
 returns-2 : tie.Need-returns-2 Inv-loop μ-loop
 returns-2 c =
-    let l = c .before .before .before .before .loop in
-    let s = now (c .before .before .before .before .before .before .args .s) in
+    let d = c .before .before .before in
+    let l = d .before .loop in
     let g = c .enum-told .given in
-    let f = missed s (l .at) (g .0 .0) (cc (c .before .before .next .ensures, g .1)) in
-    let m : l .left ≡ suc (l .left - 1) = omega arith in
-    cc (l .inv .1, m, sound-torn s (l .at) (l .left - 1) (l .inv .0) (f .1))
+    sym (l .inv .1 ∙ torn-turn (now (d .before .before .before .args .s)) (l .at) (l .left) (d .loop-test .taken) (g .0 .0) (sym (c .before .before .next .ensures) ∙ g .1) (l .inv .0))
 
 returns-3 : tie.Need-returns-3 Inv-loop μ-loop
 returns-3 c =
     let l = c .before .loop in
-    let m : l .left ≡ 0 = omega arith in
-    cc (l .inv .1, m, sound-end (now (c .before .before .before .args .s)) (l .at) (l .inv .0))
+    sym (l .inv .1 ∙ last-turn (now (c .before .before .before .args .s)) (l .at) (l .left) (c .loop-test .left) (l .inv .0))
 
 pub is-sound-spec : {M : Type 1} → statement M
 is-sound-spec =

@@ -7,9 +7,9 @@ use native.Mathlib.Omega.{arith}
 use borrow.Author.Needs.{needs}
 use borrow.Author.Tests.{not-true, not-false}
 use lib.ListN.{length, drop}
-use Rattle.blocks.proofs.Steps.{Stands, found, missed}
+use Rattle.blocks.proofs.Steps.{missed}
 use Rattle.log.specs.Log.{cutAll, toTheEnd, tallied}
-use Rattle.log.proofs.Passes.{turn, tallyFrom, tally-starts, tally-step, tally-torn, tally-end}
+use Rattle.log.proofs.Passes.{tallyFrom, tally-starts, tally-torn, tally-end, Turned, turned}
 use Rattle.log.proofs.tally.Statement.{statement}
 use Rattle.log.proofs.tally.Tie as tie
 
@@ -19,12 +19,12 @@ Inv-loop s at₀ count₀ small₀ at count small = (at ≤ length s) × (count 
 abbrev μ-loop : tie.MeasureT-loop
 μ-loop s at₀ count₀ small₀ at count small = length s - at
 
--- the block that a turn found
-step : (c : tie.After-known-told Inv-loop μ-loop) → let d = c .before .before .before .before .before in let g = c .before .length .given .0 in Stands (now (d .before .before .args .s)) (d .loop .at) (g .1 .0) (g .1 .1 .0)
+-- a turn that found a block
+step : (c : tie.After-known-told Inv-loop μ-loop) → let l = c .before .before .before .before .before .loop in let g = c .before .length .given .0 in Turned (now (c .before .before .before .before .before .before .before .args .s)) (l .at) (l .count) (l .small) (g .1 .0) (g .1 .1 .0)
 step c =
     let d = c .before .before .before .before .before in
     let g = c .before .length .given in
-    found (now (d .before .before .args .s)) (d .loop .at) (g .0 .0) (g .0 .1 .0) (g .0 .1 .1 .0) (cc (c .before .before .before .next .ensures, g .1))
+    turned (now (d .before .before .args .s)) (d .loop .at) (d .loop .count) (d .loop .small) (d .loop .inv .1) (g .0 .0) (g .0 .1 .0) (g .0 .1 .1 .0) (sym (c .before .before .before .next .ensures) ∙ g .1)
 
 loop-holds : tie.Need-loop-holds Inv-loop μ-loop
 loop-holds c =
@@ -41,18 +41,13 @@ enum-known-length : tie.Need-enum-known-length Inv-loop μ-loop
 enum-known-length c = search needs
 
 add-count : tie.Need-add-count Inv-loop μ-loop
-add-count c = let f = step c in omega arith
+add-count c = omega arith
 
 loop-less : tie.Need-loop-less Inv-loop μ-loop
-loop-less c = let f = step c in omega arith
+loop-less c = step c .less
 
 loop-again : tie.Need-loop-again Inv-loop μ-loop
-loop-again c =
-    let l = c .before .before .before .before .before .loop in
-    let s = now (c .before .before .before .before .before .before .before .args .s) in
-    let f = step c in
-    let e = l .inv .2 ∙ tally-step s (l .at) (f .2) (length s - l .count) (l .count) (l .small) in
-    (omega arith, omega arith, rw (f .0, f .1, ← turn (length s) (l .count) (omega arith)) e)
+loop-again c = let t = step c in (t .inside, t .counts, c .before .before .before .before .before .loop .inv .2 ∙ t .same)
 
 enum-known-n : tie.Need-enum-known-n Inv-loop μ-loop
 enum-known-n c = search needs
@@ -62,20 +57,20 @@ returns c =
     let l = c .before .before .before .before .before .loop in
     let s = now (c .before .before .before .before .before .before .before .args .s) in
     let g = c .before .n .given in
-    let f = missed s (l .at) (g .0 .0) (cc (c .before .before .before .next .ensures, g .1)) in
-    rw (f .0) (sym (l .inv .2 ∙ tally-torn s (l .at) (length s - l .count) (l .count) (l .small) (omega arith) (f .1)))
+    let f = missed s (l .at) (g .0 .0) (sym (c .before .before .before .next .ensures) ∙ g .1) in
+    rw (f .0) (sym (l .inv .2 ∙ tally-torn s (l .at) (length s - l .count) (l .count) (l .small) (c .before .before .before .before .loop-test .taken) (f .1)))
 
 returns-2 : tie.Need-returns-2 Inv-loop μ-loop
 returns-2 c =
     let l = c .before .before .loop in
     let s = now (c .before .before .before .before .args .s) in
-    sym (l .inv .2 ∙ tally-end s (l .at) (length s - l .count) (l .count) (l .small) false (not-true (l .small) (c .if1 .taken)) (omega arith))
+    sym (l .inv .2 ∙ tally-end s (l .at) (length s - l .count) (l .count) (l .small) false (not-true (l .small) (c .if1 .taken)) (c .before .loop-test .left))
 
 returns-3 : tie.Need-returns-3 Inv-loop μ-loop
 returns-3 c =
     let l = c .before .before .loop in
     let s = now (c .before .before .before .before .args .s) in
-    sym (l .inv .2 ∙ tally-end s (l .at) (length s - l .count) (l .count) (l .small) true (not-false (l .small) (c .if1 .left)) (omega arith))
+    sym (l .inv .2 ∙ tally-end s (l .at) (length s - l .count) (l .count) (l .small) true (not-false (l .small) (c .if1 .left)) (c .before .loop-test .left))
 
 pub tally-spec : {M : Type 1} → statement M
 tally-spec =

@@ -1,4 +1,5 @@
 use Prim.Native.Nat.{_-_, _≤_}
+use mathlib.Core.Path.{_≡_, refl}
 use native.Mathlib.Omega.{arith}
 use borrow.Author.Needs.{needs}
 use lib.ListN.{length}
@@ -6,16 +7,16 @@ use Rattle.specimens.proofs.run.Statement.{statement}
 use Rattle.specimens.proofs.run.Tie as tie
 
 abbrev Inv-loop : tie.InvT-loop
-Inv-loop book kept₀ at₀ kept at = at ≤ length book
+Inv-loop book lent₀ desk₀ at₀ lent desk at = (at ≤ length book) × (length lent ≡ length lent₀)
 
 abbrev μ-loop : tie.MeasureT-loop
-μ-loop book kept₀ at₀ kept at = length book - at
+μ-loop book lent₀ desk₀ at₀ lent desk at = length book - at
 
-open-memx-requires : tie.Need-open-memx-requires Inv-loop μ-loop
-open-memx-requires c κs = search needs
+fresh-requires : tie.Need-fresh-requires Inv-loop μ-loop
+fresh-requires c κs = search needs
 
 loop-holds : tie.Need-loop-holds Inv-loop μ-loop
-loop-holds c = omega arith
+loop-holds c = (omega arith, refl)
 
 find-requires : tie.Need-find-requires Inv-loop μ-loop
 find-requires c κs = (omega arith, omega arith)
@@ -35,6 +36,9 @@ part-line-end c = omega arith
 line-requires : tie.Need-line-requires Inv-loop μ-loop
 line-requires c κs = search needs
 
+same-length : tie.Need-same-length Inv-loop μ-loop
+same-length c = omega arith
+
 returns : tie.Need-returns Inv-loop μ-loop
 returns c = search needs
 
@@ -45,7 +49,10 @@ loop-less : tie.Need-loop-less Inv-loop μ-loop
 loop-less c = omega arith
 
 loop-again : tie.Need-loop-again Inv-loop μ-loop
-loop-again c = omega arith
+loop-again c = (omega arith, omega arith)
+
+same-length-2 : tie.Need-same-length-2 Inv-loop μ-loop
+same-length-2 c = omega arith
 
 returns-2 : tie.Need-returns-2 Inv-loop μ-loop
 returns-2 c = search needs
@@ -56,7 +63,7 @@ run-spec =
     (tie.spec
     Inv-loop
     μ-loop
-    open-memx-requires
+    fresh-requires
     loop-holds
     find-requires
     shared-slice-read-line
@@ -64,8 +71,10 @@ run-spec =
     part-line-start
     part-line-end
     line-requires
+    same-length
     returns
     add-at
     loop-less
     loop-again
+    same-length-2
     returns-2)

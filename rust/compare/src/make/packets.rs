@@ -1,6 +1,6 @@
 //! Packets, lawful and damaged, and what is to be written as one.
 
-use super::{blocks, damage, few, length, near, number, text};
+use super::{block, blocks, damage, few, length, near, number, text};
 use crate::dice::Dice;
 use hinurapay::flat::hp_packet;
 
@@ -98,6 +98,27 @@ pub fn ufo_up(dice: &mut Dice) -> (Vec<u8>, Vec<u64>) {
         packet.extend(message);
     }
     (packet, places)
+}
+
+/// What a message with so long a body is added to: nothing, a packet from the client, one with which
+/// it comes to about the limit, or any of them damaged.
+pub fn ufo_begun(body: usize, limit: usize, dice: &mut Dice) -> Vec<u8> {
+    let mut packet = match dice.below(4) {
+        0 => Vec::new(),
+        1 => {
+            // past the body the message has its length and type, and `T` and `L` have fields
+            let message = body + 3 + dice.pick(&[0, 6, 26]);
+            let length = (limit + dice.below(5)).saturating_sub(message + 4);
+            let mut packet = block(length.max(1), dice);
+            packet[2] = b'U';
+            packet
+        }
+        _ => ufo_up(dice).0,
+    };
+    if dice.one_in(4) {
+        damage(&mut packet, limit, dice);
+    }
+    packet
 }
 
 /// A Soup packet.

@@ -115,6 +115,11 @@ static void ufo_up(void) {
     read = hp_ufo_read_message(packet, sizeof packet, 9);
     CHECK(read.refusal == 0 && read.packet.type == 'R' && read.packet.next == sizeof packet);
     CHECK(hp_ufo_read_message(packet, sizeof packet, sizeof packet).refusal == 4);
+    CHECK(hp_ufo_read_message(packet, 10, 0).refusal == 4); /* a byte is left over behind the message */
+    static const uint8_t inside[6] = {0, 4, 'U', 0, 1, 'R'};
+    read = hp_ufo_read_message(inside, sizeof inside, 0);
+    CHECK(read.refusal == 0 && read.packet.type == 'U' && read.packet.start == 3 && read.packet.length == 3);
+    CHECK(hp_ufo_read_message(inside, sizeof inside, 3).refusal == 4); /* it is data, and no block of the packet */
 
     clear();
     hp_packet fields = of_type('T');
@@ -122,6 +127,37 @@ static void ufo_up(void) {
     fields.number = 3;
     fields.count = 2;
     CHECK(wrote(hp_ufo_write_message(fields, NULL, 0, out, sizeof out), packet, 9));
+    CHECK(hp_ufo_add_message(of_type('R'), NULL, 0, out, 11, 9).refusal == 9 && laid(packet, 9));
+    CHECK(wrote(hp_ufo_add_message(of_type('R'), NULL, 0, out, 12, 9), packet, 12));
+}
+
+/* what is refused when a message is added: the output is as before, whatever it is */
+static int not_added(hp_packet fields, size_t body_length, uint64_t used, uint64_t refusal) {
+    static const uint8_t body[ROOM];
+    uint8_t before[ROOM];
+    memcpy(before, out, sizeof out);
+    hp_wrote answer = hp_ufo_add_message(fields, body, body_length, out, sizeof out, used);
+    return answer.refusal == refusal && answer.bytes == 0 && memcmp(out, before, sizeof out) == 0;
+}
+
+static void adding(void) {
+    clear();
+    hp_packet request = of_type('T');
+    request.number = UINT64_C(1) << 32;
+    CHECK(not_added(request, 0, ROOM + 1, 4)); /* past the end */
+    CHECK(not_added(request, 0, 3, 4));        /* behind what is no packet */
+    CHECK(not_added(request, 0, ROOM, 2));     /* behind what is too long */
+    CHECK(not_added(request, 0, 0, 6));        /* a count of 0 */
+    request.count = 1;
+    CHECK(not_added(request, 0, 0, 7));
+    CHECK(not_added(request, 1463, 0, 4));
+    CHECK(not_added(request, 1464, 0, 2));
+    CHECK(not_added(of_type('U'), 1470, 0, 2));
+    CHECK(wrote(hp_ufo_add_message(of_type('O'), NULL, 0, out, sizeof out, 0), "\0\1O", 3));
+    CHECK(not_added(of_type('X'), 1466, 3, 3));
+    CHECK(not_added(of_type('X'), 1467, 3, 2));
+    CHECK(not_added(of_type('U'), 1467, 3, 2));
+    CHECK(not_added(of_type('R'), 0, 2, 4)); /* behind a packet that is cut */
 }
 
 static void memx(void) {
@@ -246,6 +282,30 @@ static void patience(void) {
     CHECK(hp_heartbeat_due(1000, 0).yes == 0 && hp_heartbeat_due(1001, 0).yes == 1 && hp_heartbeat_due(0, 1).refusal == 14);
 }
 
+/* many messages at once behind "hello", in a copy of its log with a little more room */
+static void adding_many(hp_log log, const uint8_t *hello) {
+    static const uint8_t two[] = {0, 0, 0, 2, 'H', 'I'}, over[2 + 1464] = {1464 >> 8, 1464 & 255};
+    uint8_t bytes[13] = {0}, before[13];
+    memcpy(bytes, hello, 7);
+    memcpy(before, bytes, sizeof bytes);
+    hp_logged logged = hp_log_add_many(log, bytes, sizeof bytes, NULL, 0);
+    CHECK(logged.refusal == 0 && logged.log.count == 1 && logged.log.used == 7);
+    CHECK(hp_log_add_many(log, bytes, sizeof bytes, two, 5).refusal == 4);
+    CHECK(hp_log_add_many(log, bytes, sizeof bytes, over, sizeof over).refusal == 2);
+    logged = hp_log_add_many(log, bytes, sizeof bytes - 1, two, sizeof two);
+    CHECK(logged.refusal == 9 && logged.log.count == 1 && logged.log.used == 7);
+    log.ended = 1;
+    CHECK(hp_log_add_many(log, bytes, sizeof bytes, two, 5).refusal == 13);
+    log.ended = 2;
+    logged = hp_log_add_many(log, bytes, sizeof bytes, two, 5);
+    CHECK(logged.refusal == 10 && logged.log.ended == 2);
+    CHECK(memcmp(bytes, before, sizeof bytes) == 0);
+    log.ended = 0;
+    logged = hp_log_add_many(log, bytes, sizeof bytes, two, sizeof two);
+    CHECK(logged.refusal == 0 && logged.log.count == 3 && logged.log.used == sizeof bytes && logged.log.ended == 0);
+    CHECK(memcmp(bytes, "\0\5hello\0\0\0\2HI", sizeof bytes) == 0);
+}
+
 static void lending(void) {
     static const uint8_t long_message[1464];
     static uint8_t bytes[8];
@@ -257,6 +317,7 @@ static void lending(void) {
     CHECK(hp_log_add(log, bytes, sizeof bytes, long_message, sizeof long_message).refusal == 2);
     logged = hp_log_add(log, bytes, sizeof bytes, HELLO, 0);
     CHECK(logged.refusal == 9 && logged.log.count == 1 && logged.log.used == 7);
+    adding_many(log, bytes);
 
     clear();
     CHECK(turned_down(hp_log_answer(log, bytes, sizeof bytes, 0, 1, out, sizeof out), 6));
@@ -287,6 +348,7 @@ int main(void) {
     soup();
     ufo_down();
     ufo_up();
+    adding();
     memx();
     delivery();
     record();

@@ -64,6 +64,11 @@ pub fn hp_log_add(log: hp_log, bytes: &mut [u8], message: &[u8]) -> hp_logged {
     log.changed(|log| log.add(bytes, message))
 }
 
+/// Adds many messages to the log at once, given as their blocks.
+pub fn hp_log_add_many(log: hp_log, bytes: &mut [u8], blocks: &[u8]) -> hp_logged {
+    log.changed(|log| log.add_many(bytes, blocks).map(|_| ()))
+}
+
 /// Declares the log's end.
 pub fn hp_log_declare_end(log: hp_log, bytes: &[u8]) -> hp_logged {
     log.changed(|log| log.declare_end(bytes))

@@ -89,8 +89,8 @@ pub fn hp_ufo_read_up(packet: &[u8]) -> hp_read {
     read.into()
 }
 
-/// Reads the UFO message from the client whose block stands at place; a place at or past the end
-/// is 4.
+/// Reads the UFO message from the client whose block starts at place; refused as [`hp_ufo_read_up`]
+/// refuses the packet, then 4 where no block starts there.
 pub fn hp_ufo_read_message(packet: &[u8], place: u64) -> hp_read {
     let read = ufo::read_message(packet, spot(place)).map(|(message, next)| hp_packet {
         next: next as u64,
@@ -135,7 +135,16 @@ pub fn hp_ufo_write_down(fields: hp_packet, body: &[u8], out: &mut [u8]) -> hp_w
 /// Writes one UFO message from the client as a block; refused as the packet of that one block
 /// would be.
 pub fn hp_ufo_write_message(fields: hp_packet, body: &[u8], out: &mut [u8]) -> hp_wrote {
-    let written = to_up(&fields, body).and_then(|message| ufo::write_message(&message, out));
+    let written = to_up(&fields, body, 0).and_then(|message| ufo::write_message(&message, out));
+    written.into()
+}
+
+/// Adds one UFO message more behind the packet, or the nothing, that the output's first `used` bytes
+/// are, and says how many bytes the whole has.
+pub fn hp_ufo_add_message(fields: hp_packet, body: &[u8], out: &mut [u8], used: u64) -> hp_wrote {
+    let used = spot(used);
+    let written = ufo::Packet::begun(out, used)
+        .and_then(|mut packet| packet.add(&to_up(&fields, body, used)?));
     written.into()
 }
 
@@ -334,7 +343,8 @@ fn from_up(message: &Up<'_>, place: u64) -> hp_packet {
     }
 }
 
-fn to_up<'a>(fields: &hp_packet, body: &'a [u8]) -> Result<Up<'a>, Refusal> {
+/// The message, to stand behind so many bytes of its packet.
+fn to_up<'a>(fields: &hp_packet, body: &'a [u8], behind: usize) -> Result<Up<'a>, Refusal> {
     let (message, fixed) = match fields.r#type {
         b'U' => return Ok(Up::Unsequenced(body)),
         b'L' => {
@@ -352,9 +362,9 @@ fn to_up<'a>(fields: &hp_packet, body: &'a [u8]) -> Result<Up<'a>, Refusal> {
         }
         b'R' => (Up::Heartbeat, 2 + 1),
         b'O' => (Up::Logoff, 2 + 1),
-        _ => return Err(unknown(2 + 1, body, ufo::LIMIT)),
+        _ => return Err(unknown(behind + 2 + 1, body, ufo::LIMIT)),
     };
-    bodiless(fixed, body, ufo::LIMIT)?;
+    bodiless(behind + fixed, body, ufo::LIMIT)?;
     Ok(message)
 }
 

@@ -127,7 +127,7 @@ pub struct hp_asked {
     pub record: hp_record,
 }
 
-/// Opens a record of a UFO session.
+/// Opens a record of a UFO session; its `session` is 0.
 pub fn hp_open_ufo(name: &[u8; 10]) -> hp_opened {
     match Record::open_ufo(Name(*name)) {
         Ok(record) => hp_opened {
@@ -141,7 +141,7 @@ pub fn hp_open_ufo(name: &[u8; 10]) -> hp_opened {
     }
 }
 
-/// Opens a record of a MEMX-UDP session.
+/// Opens a record of a MEMX-UDP session; its `name` is zeros.
 pub fn hp_open_memx(session: u64) -> hp_opened {
     hp_opened {
         refusal: 0,

@@ -83,14 +83,20 @@ pub fn read_up(datagram: &[u8]) -> Result<usize, Refusal> {
     Ok(messages)
 }
 
-/// Reads the message whose block stands at a place of a packet, and says where the next block
-/// begins. 1 and 2 are about the whole packet, everything else about that block only; a place at
-/// or past the end is 4.
+/// Reads the message whose block starts at a place of a packet, and says where the next block
+/// begins. It is refused as the whole packet is; then 4 if no block starts there.
 pub fn read_message(datagram: &[u8], place: usize) -> Result<(Up<'_>, usize), Refusal> {
-    measured(datagram.len(), LIMIT)?;
-    let block = blocks::next_block(datagram, place)?;
-    let message = read(&datagram[block.start..block.next])?;
-    Ok((message, block.next))
+    read_up(datagram)?;
+    let mut start = 0;
+    for message in Blocks::over(datagram) {
+        let message = message?;
+        let next = start + 2 + message.len();
+        if start == place {
+            return Ok((read(message)?, next));
+        }
+        start = next;
+    }
+    Err(Refusal::Framing)
 }
 
 /// Reads what is inside a block: 4 if there is nothing, then 3, 4, 5, 6.
@@ -150,5 +156,33 @@ pub fn write_message(message: &Up<'_>, slip: &mut [u8]) -> Result<usize, Refusal
         Up::Unsequenced(data) => lay(&[&length, b"U", data], slip),
         Up::Heartbeat => lay(&[&length, b"R"], slip),
         Up::Logoff => lay(&[&length, b"O"], slip),
+    }
+}
+
+/// A packet from the client that is put together, message by message, at a slip's start.
+#[derive(Debug)]
+pub struct Packet<'a> {
+    slip: &'a mut [u8],
+    used: usize,
+}
+
+impl<'a> Packet<'a> {
+    /// Goes on with the packet, or the nothing, that the slip's first `used` bytes are. 4 if the
+    /// slip has not so many, else as the reader refuses them if there are any.
+    pub fn begun(slip: &'a mut [u8], used: usize) -> Result<Packet<'a>, Refusal> {
+        let packet = slip.get(..used).ok_or(Refusal::Framing)?;
+        if !packet.is_empty() {
+            read_up(packet)?;
+        }
+        Ok(Packet { slip, used })
+    }
+
+    /// Puts one message more behind the others and says how many bytes the packet has then. It is
+    /// refused as the reader would refuse that packet, 7 for a number that its field cannot hold;
+    /// then 9.
+    pub fn add(&mut self, message: &Up<'_>) -> Result<usize, Refusal> {
+        measured(self.used + 2 + message.length(), LIMIT)?;
+        self.used += write_message(message, &mut self.slip[self.used..])?;
+        Ok(self.used)
     }
 }

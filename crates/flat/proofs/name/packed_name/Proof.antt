@@ -2,8 +2,8 @@ use mathlib.Core.Path.{ap, _∙_}
 use denote.Ref.{now}
 use native.Mathlib.Omega.{arith}
 use lib.Seq.{take-all}
-use Rattle.wire.proofs.Packing.{name-written}
-use Rattle.wire.specs.Names.{nameBytes}
+use Rattle.names.proofs.Packing.{name-written}
+use Rattle.names.specs.Names.{nameBytes}
 use borrow.Author.Needs.{needs}
 use Rattle.flat.proofs.name.packed_name.Statement.{statement}
 use Rattle.flat.proofs.name.packed_name.Tie as tie

@@ -2,8 +2,8 @@ use mathlib.Core.Path.{ap, _∙_}
 use denote.Ref.{now}
 use native.Mathlib.Omega.{arith}
 use lib.Seq.{take-all}
-use Rattle.wire.proofs.Packing.{user-written}
-use Rattle.wire.specs.Names.{userBytes}
+use Rattle.names.proofs.Packing.{user-written}
+use Rattle.names.specs.Names.{userBytes}
 use borrow.Author.Needs.{needs}
 use Rattle.flat.proofs.name.packed_user.Statement.{statement}
 use Rattle.flat.proofs.name.packed_user.Tie as tie

@@ -1,14 +1,15 @@
-use Prim.Native.Nat.{ℕ}
-use mathlib.Core.Path.{_≡_, sym, _∙_}
-use mathlib.Core.Bool.{Bool, _&&_, true}
-use native.Mathlib.Omega.{arith}
+use mathlib.Core.Path.{_≡_}
+use mathlib.Core.Bool.{Bool, _&&_}
 use denote.Ref.{now}
 use borrow.Author.Needs.{needs}
-use borrow.Author.Tests.{not-true, not-false}
-use Rattle.wire.specs.Text.{textThenSpaces, spacesThenText}
-use Rattle.soup.specs.Decimal.{wellFormed, valueOf}
-use Rattle.wire.proofs.Tests.{and-right}
-use Rattle.soup.proofs.Together.{login-together, over-bound, within-bound}
+use Rattle.wire.specs.Checks.{Verdict}
+use Rattle.wire.proofs.Tests.{held, failed}
+use Rattle.text.specs.Text.{textThenSpaces, spacesThenText}
+use Rattle.decimal.specs.declared.Number.{Number}
+use Rattle.decimal.specs.declared.Number.the-variants.{Misshapen, Blank, Over, Is}
+use Rattle.soup.specs.Packet.{Packet}
+use Rattle.soup.specs.Read.{loginOf}
+use Rattle.soup.proofs.Together.{loginBy, login-together}
 use Rattle.soup.proofs.reading.login_of.Statement.{statement}
 use Rattle.soup.proofs.reading.login_of.Tie as tie
 
@@ -21,52 +22,57 @@ is-text-then-spaces-requires-2 c κs = search needs
 is-spaces-then-text-requires : tie.Need-is-spaces-then-text-requires
 is-spaces-then-text-requires c κs = search needs
 
-is-well-formed-requires : tie.Need-is-well-formed-requires
-is-well-formed-requires c κs = search needs
+-- whether the texts are padded as they should be: what the code says, and what the paper says
+abbrev code : tie.After-is-spaces-then-text → Bool
+code c =
+    c .before .before .is-text-then-spaces .result && c .before .is-text-then-spaces2 .result && c .is-spaces-then-text .result
 
--- whether the form is right: what the paper says, and what the code says
-abbrev texts : tie.After-is-well-formed → Bool
-texts c =
-    let a = c .before .before .before .before .before .before .before .before .args in
+abbrev paper : tie.After-is-spaces-then-text → Bool
+paper c =
+    let a = c .before .before .before .before .before .before .before .args in
     textThenSpaces (now (a .user)) && textThenSpaces (now (a .password)) && spacesThenText (now (a .session))
 
-abbrev number : tie.After-is-well-formed → Bool
-number c = wellFormed (now (c .before .before .before .before .before .before .before .before .args .digits))
-
-abbrev code : tie.After-is-well-formed → Bool
-code c =
-    c .before .before .before .is-text-then-spaces .result
-    && c .before .before .is-text-then-spaces2 .result
-    && c .before .is-spaces-then-text .result
-    && c .is-well-formed .result
-
-same : (c : tie.After-is-well-formed) → texts c && number c ≡ code c
+same : (c : tie.After-is-spaces-then-text) → code c ≡ paper c
 same c =
-    let b = c .before in
-    rw (← b .before .before .is-text-then-spaces .ensures, ← b .before .is-text-then-spaces2 .ensures, ← b .is-spaces-then-text .ensures, ← c .is-well-formed .ensures)
-
-formed : (c : tie.Else1) → texts (c .before) && number (c .before) ≡ true
-formed c = same (c .before) ∙ not-false (code (c .before)) (c .if1 .left)
+    rw (c .before .before .is-text-then-spaces .ensures, c .before .is-text-then-spaces2 .ensures, c .is-spaces-then-text .ensures)
 
 returns : tie.Need-returns
-returns c = rw (login-together, same (c .before), not-true (code (c .before)) (c .if1 .taken))
+returns c =
+    let b = c .before in
+    let s = b .before .before .before .before .before .before .before in
+    let a = s .args in
+    rw (login-together (now (a .user)) (now (a .password)) (now (a .session)) (now (a .digits)) (s .pre .3), failed (same b) (c .if1 .taken))
 
-is-blank-requires : tie.Need-is-blank-requires
-is-blank-requires c κs = search needs
+read-requires : tie.Need-read-requires
+read-requires c κs = search needs
 
-returns-2 : tie.Need-returns-2
-returns-2 c = rw (login-together, formed (c .before .before), ← c .before .is-blank .ensures, c .if2 .taken)
+abbrev login-of : tie.After-read → Verdict Packet
+login-of c =
+    let a = c .before .before .before .before .before .before .before .before .before .args in
+    loginOf (now (a .user)) (now (a .password)) (now (a .session)) (now (a .digits))
 
-value-requires : tie.Need-value-requires
-value-requires c κs =
-    let f = c .before .before in
-    (omega arith, and-right (texts (f .before)) (number (f .before)) (formed f))
+abbrev login-by : tie.After-read → Number → Verdict Packet
+login-by c n =
+    let a = c .before .before .before .before .before .before .before .before .before .args in
+    loginBy (now (a .user)) (now (a .password)) (now (a .session)) n
 
-abbrev value-of : tie.After-value → ℕ
-value-of c = valueOf (now (c .before .before .before .before .before .before .before .before .before .before .before .before .args .digits))
+-- they are, and the number was told as n
+told-as : (c : tie.After-read) (n : Number) → c .read .result ≡ n → login-of c ≡ login-by c n
+told-as c n e =
+    let i = c .before in
+    let b = i .before in
+    let s = b .before .before .before .before .before .before .before in
+    let a = s .args in
+    rw (login-together (now (a .user)) (now (a .password)) (now (a .session)) (now (a .digits)) (s .pre .3), held (same b) (i .if1 .left), ← c .read .ensures, e)
 
 enum-told : tie.Need-enum-told
 enum-told c = search needs
+
+enum-told-2 : tie.Need-enum-told-2
+enum-told-2 c = search needs
+
+enum-told-3 : tie.Need-enum-told-3
+enum-told-3 c = search needs
 
 enum-known-n : tie.Need-enum-known-n
 enum-known-n c = search needs
@@ -80,20 +86,20 @@ get-name-requires c κs = search needs
 get-name-requires-2 : tie.Need-get-name-requires-2
 get-name-requires-2 c κs = search needs
 
+returns-2 : tie.Need-returns-2
+returns-2 c = rw (told-as (c .before .before) Misshapen (c .enum-told .given .1))
+
 returns-3 : tie.Need-returns-3
-returns-3 c =
-    let e = c .before .before in
-    let b = e .before in
-    rw (login-together, formed (b .before .before), ← b .before .is-blank .ensures, b .if2 .left, over-bound (value-of e) (sym (e .value .ensures) ∙ c .enum-told .given .1))
+returns-3 c = rw (told-as (c .before .before) Blank (c .enum-told2 .given .1))
 
 returns-4 : tie.Need-returns-4
-returns-4 c =
+returns-4 c = rw (told-as (c .before .before) Over (c .enum-told3 .given .1))
+
+returns-5 : tie.Need-returns-5
+returns-5 c =
     let u = c .before .before in
     let m = u .before .before in
-    let e = m .before .before in
-    let b = e .before in
-    let w = within-bound (value-of e) (m .n .given .0 .0) (sym (e .value .ensures) ∙ m .n .given .1) in
-    rw (login-together, formed (b .before .before), ← b .before .is-blank .ensures, b .if2 .left, w .0, w .1, u .get-user .ensures, c .before .get-name .ensures, c .get-name2 .ensures)
+    rw (told-as (m .before .before) (Is (m .n .given .0 .0)) (m .n .given .1), u .get-user .ensures, c .before .get-name .ensures, c .get-name2 .ensures)
 
 pub login-of-spec : {M : Type 1} → statement M
 login-of-spec =
@@ -102,15 +108,16 @@ login-of-spec =
     is-text-then-spaces-requires
     is-text-then-spaces-requires-2
     is-spaces-then-text-requires
-    is-well-formed-requires
     returns
-    is-blank-requires
-    returns-2
-    value-requires
+    read-requires
     enum-told
+    enum-told-2
+    enum-told-3
     enum-known-n
     get-user-requires
     get-name-requires
     get-name-requires-2
+    returns-2
     returns-3
-    returns-4)
+    returns-4
+    returns-5)

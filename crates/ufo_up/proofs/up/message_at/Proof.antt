@@ -1,4 +1,4 @@
-use mathlib.Core.Path.{_≡_, refl, _∙_}
+use mathlib.Core.Path.{_≡_, refl, _∙_, sym}
 use denote.Ref.{now}
 use native.Mathlib.Omega.{arith}
 use Rattle.blocks.specs.Blocks.{endAt}
@@ -18,7 +18,7 @@ finds-at : (c : tie.After-known-told2) → let g = c .before .start .given in le
 finds-at c =
     let g = c .before .start .given in
     let a = c .before .before .before .before .before .args in
-    finds (now (a .d)) (a .place) (g .0 .0) (g .0 .1 .0) (g .0 .1 .1 .0) (cc (c .before .before .before .next .ensures, g .1))
+    finds (now (a .d)) (a .place) (g .0 .0) (g .0 .1 .0) (g .0 .1 .1 .0) (sym (c .before .before .before .next .ensures) ∙ g .1)
 
 -- what the reader of its type answers is the answer
 answered : (c : tie.Else1) → let g = c .before .before .start .given in let a = c .before .before .before .before .before .before .args in (r : Up) (v : Verdict Message) → r ≡ upOf (g .0 .1 .1 .0) v → readMessage (take (g .0 .1 .1 .0 - g .0 .0) (drop (g .0 .0) (now (a .d)))) ≡ v → r ≡ upOf (endAt (now (a .d)) (a .place)) (messageAt (now (a .d)) (a .place))
@@ -72,7 +72,7 @@ alone-requires-2 c κs = search needs
 returns-2 : tie.Need-returns-2
 returns-2 c =
     let a = c .before .before .before .before .before .args in
-    none-at (now (a .d)) (a .place) (c .before .n .given .0 .0) (cc (c .before .before .before .next .ensures, c .before .n .given .1))
+    none-at (now (a .d)) (a .place) (c .before .n .given .0 .0) (sym (c .before .before .before .next .ensures) ∙ c .before .n .given .1)
 
 returns-3 : tie.Need-returns-3
 returns-3 c = answered (c .before .before .before .before) _ _ (c .read-l .ensures) (of-kind _ 76 (c .before .match2 .keys1))

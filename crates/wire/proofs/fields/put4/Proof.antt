@@ -1,6 +1,5 @@
 use denote.Ref.{now}
-use native.Mathlib.Omega.{arith}
-use Rattle.wire.proofs.Width.{put-add}
+use Rattle.wire.proofs.Width.{puts}
 use borrow.Author.Needs.{needs}
 use Rattle.wire.proofs.fields.put4.Statement.{statement}
 use Rattle.wire.proofs.fields.put4.Tie as tie
@@ -25,8 +24,8 @@ same-length c = search needs
 
 returns : tie.Need-returns
 returns c =
-    let a = c .before .before .before .before .before .before .before .before .before .args in
-    cc (put-add 2 2 (now (a .d)) (a .at) (a .n) (omega arith))
+    let d = c .before .before .before .before .before .before .before .before .before in
+    puts 2 2 (now (d .args .d)) _ _ (d .args .at) (d .args .n) (d .fits .n .fits) (c .before .before .before .before .before .before .put2 .ensures) (c .before .before .put22 .ensures)
 
 pub put4-spec : {M : Type 1} → statement M
 put4-spec =

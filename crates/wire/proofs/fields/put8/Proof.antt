@@ -1,6 +1,5 @@
 use denote.Ref.{now}
-use native.Mathlib.Omega.{arith}
-use Rattle.wire.proofs.Width.{put-add}
+use Rattle.wire.proofs.Width.{puts}
 use borrow.Author.Needs.{needs}
 use Rattle.wire.proofs.fields.put8.Statement.{statement}
 use Rattle.wire.proofs.fields.put8.Tie as tie
@@ -25,8 +24,8 @@ same-length c = search needs
 
 returns : tie.Need-returns
 returns c =
-    let a = c .before .before .before .before .before .before .before .before .before .args in
-    cc (put-add 4 4 (now (a .d)) (a .at) (a .n) (omega arith))
+    let d = c .before .before .before .before .before .before .before .before .before in
+    puts 4 4 (now (d .args .d)) _ _ (d .args .at) (d .args .n) (d .fits .n .fits) (c .before .before .before .before .before .before .put4 .ensures) (c .before .before .put42 .ensures)
 
 pub put8-spec : {M : Type 1} → statement M
 put8-spec =

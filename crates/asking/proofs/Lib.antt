@@ -1,0 +1,3 @@
+pub mod Asks
+mod Settled
+pub mod Order

@@ -1,0 +1,45 @@
+-- What to ask now.
+-- Assumes nothing.
+use Prim.Native.Nat.{ℕ, _+_, _-_, min}
+use mathlib.Core.List.{[], _∷_}
+use mathlib.Core.Bool.{Bool, not, _||_}
+use lib.Ieee.{Float}
+use Rattle.wire.specs.Checks.{if_then_else_, _is_, Verdict, refused, taken, _else_, checked, _into_}
+use Rattle.clock.specs.Patience.{waitOver}
+use Rattle.clock.specs.declared.sheet.Sheet.{Sheet}
+use Rattle.clock.specs.declared.patience.Patience.{Patience}
+use Rattle.record.specs.Record.{hangs}
+use Rattle.record.specs.Standing.{lacks}
+use Rattle.record.specs.declared.Record.{Record}
+use Rattle.asking.specs.declared.Asked.{Asked}
+use Rattle.asking.specs.declared.Asked.the-variants as asks
+
+pub data Wish : Type 0 where
+  nothing : Wish
+  wait : Wish
+  request : (first count : ℕ) (after : Record) → Wish
+
+-- A becomes N
+abbrev pub askedNow : Record → Record
+askedNow r = record { session = r .session; next = r .next; top = r .top; ended = r .ended; asked = r .next }
+
+-- a request names N and min(T-N+1, 65,535)
+unfoldable pub requestOf : Record → Wish
+requestOf r = request (r .next .0) (min (r .top .0 - r .next .0 + 1) 65535) (askedNow r)
+
+-- late: the rule has a wait, and elapsed is at least that wait
+unfoldable pub wish : Record → Bool → Wish
+wish r late =
+    if not (lacks r) then nothing else
+    if not (r .asked .0 is r .next .0) || late then requestOf r else
+    wait
+
+unfoldable pub asking : Record → Sheet → Patience → Float → Verdict Wish
+asking r s p elapsed =
+    checked ((hangs r else 10) ∷ []) (waitOver s p elapsed into λ late. taken (wish r late))
+
+abbrev pub askedOf : Verdict Wish → Asked
+askedOf (refused n) = asks.Refused n
+askedOf (taken nothing) = asks.Nothing
+askedOf (taken wait) = asks.Wait
+askedOf (taken (request first count after)) = asks.Request (record { 0 = first }) count after

@@ -1,0 +1,98 @@
+-- What an entry of the specimen book can be, and what it says, by the definitions that the desk's contracts cite.
+-- Assumes nothing.
+use Prim.Native.Nat.{ℕ}
+use mathlib.Core.Path.{_≡_}
+use mathlib.Core.List.{List, [], _∷_}
+use mathlib.Core.Bool.{true, false}
+use mathlib.Core.Option.{some}
+use lib.Ieee.{Float}
+use Rattle.wire.specs.Checks.{Verdict, taken, _into_}
+use Rattle.ufo.specs.Down as server
+use Rattle.ufo_up.specs.Up as client
+use Rattle.memx.specs.Packet as broadcast
+use Rattle.memx.specs.Read as broadcastRead
+use Rattle.soup.specs.Packet as stream
+use Rattle.soup.specs.Read as streamRead
+use Rattle.clock.specs.Sheet.{timing}
+use Rattle.clock.specs.Patience.{waiting}
+use Rattle.clock.specs.Milliseconds.{whole}
+use Rattle.clock.specs.declared.sheet.Sheet.{Sheet}
+use Rattle.clock.specs.declared.patience.Patience.{Patience}
+use Rattle.record.specs.Record.{fresh, opening}
+use Rattle.taking.specs.Taking.{taking}
+use Rattle.record.specs.Standing.{State, standing}
+use Rattle.in_place.specs.Lent.{onceTaken}
+use Rattle.record.specs.declared.Record.{Record}
+use Rattle.record.specs.declared.Session.{Session}
+use Rattle.record.specs.declared.Session.the-variants.{Ufo, Memx}
+
+infixr 5 _and_
+-- a line of a record's story: a datagram, what it delivers or why it is refused, and N, T and how the record stands afterwards
+pub record Line : Type 0 where
+  pub datagram : List ℕ
+  pub answer : Verdict (List (List ℕ))
+  pub next : ℕ
+  pub top : ℕ
+  pub stands : Verdict State
+
+-- a timed answer: how long it took, and mean, spread and wait afterwards
+pub record Timed : Type 0 where
+  pub sample : Float
+  pub mean : Float
+  pub spread : Float
+  pub wait : Float
+
+-- a packet with what its reader says; a record that is opened and hears nothing; one that is opened and hears datagrams; timed answers
+pub data Entry : Type 0 where
+  down : List ℕ → Verdict server.Packet → Entry
+  up : List ℕ → Verdict (List client.Message) → Entry
+  memx : List ℕ → Verdict broadcast.Packet → Entry
+  soup : List ℕ → Verdict stream.Packet → Entry
+  unheard : Session → State → Entry
+  story : Session → List Line → Entry
+  clock : Patience → List Timed → Entry
+
+abbrev pub opened : Session → Verdict Record
+opened (Ufo name) = opening name
+opened (Memx id) = taken (fresh (Memx id))
+
+-- the same datagrams, with what the record makes of them; the output has room for any packet
+abbrev pub retold : Record → List Line → List Line
+retold kept [] = []
+retold kept (l ∷ ls) =
+    let verdict = taking kept (l .datagram) 1472 in
+    let after = onceTaken kept verdict in
+    record {
+      datagram = l .datagram;
+      answer = verdict into λ t. taken (t .delivered);
+      next = after .next .0;
+      top = after .top .0;
+      stands = standing after;
+    } ∷ retold after ls
+
+abbrev pub untimed : Sheet
+untimed = record { mean = whole 0; spread = whole 0; timed = false }
+
+abbrev pub sheetOf : Timed → Sheet
+sheetOf t = record { mean = t .mean; spread = t .spread; timed = true }
+
+-- each answer leaves the sheet and the wait that stand beside it
+abbrev pub Reckoned : Patience → Sheet → List Timed → Type 0
+Reckoned rule sheet [] = Unit
+Reckoned rule sheet (t ∷ ts) =
+    (timing sheet (t .sample) ≡ taken (sheetOf t)) × (waiting (sheetOf t) rule ≡ taken (some (t .wait))) × Reckoned rule (sheetOf t) ts
+
+-- what an entry says
+abbrev pub Says : Entry → Type 0
+Says (down d v) = server.read d ≡ v
+Says (up d v) = client.readUp d ≡ v
+Says (memx d v) = broadcastRead.read d ≡ v
+Says (soup d v) = streamRead.read d ≡ v
+Says (unheard session state) = opened session into standing ≡ taken state
+Says (story session ls) = opened session into (λ kept. taken (retold kept ls)) ≡ taken ls
+Says (clock rule ts) = Reckoned rule untimed ts
+
+-- every entry of a list holds
+pub data All : List Entry → Type 0 where
+  none : All []
+  _and_ : {e : Entry} {es : List Entry} → Says e → All es → All (e ∷ es)

@@ -1,0 +1,5 @@
+pub mod Digits
+pub mod Powers
+pub mod Written
+pub mod Told
+mod Settled

@@ -1,0 +1,3 @@
+pub mod Refusing
+mod Behind
+mod Settled

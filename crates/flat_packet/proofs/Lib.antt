@@ -1,0 +1,4 @@
+pub mod Refusing
+pub mod Unfitting
+pub mod Round
+mod Settled

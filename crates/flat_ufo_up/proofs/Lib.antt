@@ -1,0 +1,4 @@
+pub mod Counting
+pub mod Refusing
+pub mod Round
+mod Settled

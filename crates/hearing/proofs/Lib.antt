@@ -1,0 +1,3 @@
+pub mod Hearing
+pub mod Order
+pub mod Own

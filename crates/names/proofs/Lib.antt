@@ -1,0 +1,2 @@
+pub mod Packing
+mod Settled

@@ -1,0 +1,14 @@
+pub mod Own
+pub mod Order
+pub mod Broadcast
+pub mod Answering
+pub mod Delivering
+pub mod Growing
+pub mod HandingOver
+pub mod Kept
+pub mod Numbered
+pub mod Reports
+pub mod Took
+pub mod Tape
+pub mod Twice
+mod Settled

@@ -1,0 +1,4 @@
+pub mod Alphabet
+pub mod Padding
+pub mod Textual
+mod Settled

@@ -1,0 +1,5 @@
+pub mod Behind
+pub mod Adding
+pub mod Composed
+mod Given
+mod Settled

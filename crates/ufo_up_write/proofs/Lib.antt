@@ -1,0 +1,3 @@
+pub mod UpLaid
+pub mod UpReplies
+mod Settled

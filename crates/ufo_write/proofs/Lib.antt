@@ -1,0 +1,3 @@
+pub mod DownReplies
+pub mod DownLawful
+mod Settled
