@@ -16,6 +16,8 @@ use Rattle.hinurapay.proofs.reading.hp_ufo_read_message.Kinds as hp-ufo
 use Rattle.hinurapay.proofs.reading.hp_ufo_read_message.Reads as hp-ufo-read-message-reads
 use Rattle.hinurapay.proofs.reading.hp_memx_read.Kinds as hp-memx-read
 use Rattle.hinurapay.proofs.reading.hp_memx_read.Reads as hp-memx-read-reads
+use Rattle.hinurapay.proofs.reading.hp_tcp_read.Kinds as hp-tcp-read
+use Rattle.hinurapay.proofs.reading.hp_tcp_read.Reads as hp-tcp-read-reads
 use Rattle.hinurapay.proofs.reading.hp_next_block.Kinds as hp-next-block
 use Rattle.hinurapay.proofs.reading.hp_next_block.Reads as hp-next-block-reads
 use Rattle.hinurapay.proofs.writing.hp_soup_write.Kinds as hp-soup-write
@@ -28,6 +30,8 @@ use Rattle.hinurapay.proofs.writing.hp_ufo_add_message.Kinds as hp-ufo-
 use Rattle.hinurapay.proofs.writing.hp_ufo_add_message.Reads as hp-ufo-add-message-reads
 use Rattle.hinurapay.proofs.writing.hp_memx_write.Kinds as hp-memx-write
 use Rattle.hinurapay.proofs.writing.hp_memx_write.Reads as hp-memx-write-reads
+use Rattle.hinurapay.proofs.writing.hp_tcp_write.Kinds as hp-tcp-write
+use Rattle.hinurapay.proofs.writing.hp_tcp_write.Reads as hp-tcp-write-reads
 use Rattle.hinurapay.proofs.keeping.hp_open_ufo.Kinds as hp-open-ufo
 use Rattle.hinurapay.proofs.keeping.hp_open_ufo.Reads as hp-open-ufo-reads
 use Rattle.hinurapay.proofs.keeping.hp_open_memx.Kinds as hp-open-memx
@@ -74,6 +78,9 @@ hp-ufo-read-message-is κs a x y s t = same-answer
 hp-memx-read-is : Answered 1 hp-memx-read.ps hp-memx-read.r hp-memx-read-reads.Post
 hp-memx-read-is κs a x y s t = same-answer
 
+hp-tcp-read-is : Answered 1 hp-tcp-read.ps hp-tcp-read.r hp-tcp-read-reads.Post
+hp-tcp-read-is κs a x y s t = same-answer
+
 hp-next-block-is : Answered 1 hp-next-block.ps hp-next-block.r hp-next-block-reads.Post
 hp-next-block-is κs a x y s t = same-answer
 
@@ -91,6 +98,9 @@ hp-ufo-add-message-is κs a x y s t = same-flat-reply
 
 hp-memx-write-is : Determined 2 hp-memx-write.ps hp-memx-write.r (List ℕ) (λ κs s. now (s .1 .1 .0)) hp-memx-write-reads.Post
 hp-memx-write-is κs a x y s t = same-flat-reply
+
+hp-tcp-write-is : Determined 2 hp-tcp-write.ps hp-tcp-write.r (List ℕ) (λ κs s. now (s .1 .1 .0)) hp-tcp-write-reads.Post
+hp-tcp-write-is κs a x y s t = same-flat-reply
 
 hp-open-ufo-is : Answered 1 hp-open-ufo.ps hp-open-ufo.r hp-open-ufo-reads.Post
 hp-open-ufo-is κs a x y s t = same-answer

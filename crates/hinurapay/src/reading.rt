@@ -2,10 +2,12 @@
 use flat::block;
 use flat::block::FlatBlock;
 use flat_packet::Read;
+use flat_tcp::FlatTcpReading;
 ghost use mathlib.Core.Path.{_≡_};
 ghost use Rattle.flat.specs.Block.{nextBlock};
 ghost use Rattle.flat_memx.specs.Reading.{memxRead};
 ghost use Rattle.flat_soup.specs.Reading.{soupRead};
+ghost use Rattle.flat_tcp.specs.Packets.{tcpRead};
 ghost use Rattle.flat_ufo.specs.Reading.{downRead};
 ghost use Rattle.flat_ufo_up.specs.Reading.{upRead, messageRead};
 
@@ -42,6 +44,13 @@ pub extern "C" fn hp_memx_read(packet: &[u8]) -> Read
     ensures { λ r. ⌜ r ≡ memxRead (now (packet .entry)) ⌝ }
 {
     flat_memx::read(packet)
+}
+
+#[no_mangle]
+pub extern "C" fn hp_tcp_read(packet: &[u8]) -> FlatTcpReading
+    ensures { λ r. ⌜ r ≡ tcpRead (now (packet .entry)) ⌝ }
+{
+    flat_tcp::read(packet)
 }
 
 #[no_mangle]

@@ -10,6 +10,7 @@ mod numbers;
 mod page;
 mod soup_packets;
 mod tape;
+mod tcp_packets;
 mod timing;
 mod ufo_packets;
 mod visiting;
@@ -45,7 +46,15 @@ fn answer(letter: u8, text: &[u8], d: &[u8], mark: usize) {
     }
 }
 
+// `tcp` and `take` have the first letter in common.
 fn answers(letter: u8, text: &[u8], d: &[u8], mark: usize, desk: Desk, lent: &mut [u8]) -> Desk {
+    if text.len() < 2 {
+        return desk;
+    }
+    if (letter == b't') & (text[1] == b'c') {
+        tcp_packets::tcp(d);
+        return desk;
+    }
     answer(letter, text, d, mark);
     let kept = tape::line(letter, text, d, mark, desk.kept);
     let shelf = lending::line(letter, text, d, mark, desk.shelf, lent);

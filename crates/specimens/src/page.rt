@@ -8,8 +8,8 @@ use wire::kinds::Sequence;
 use wire::kinds::User;
 use wire::output::Written;
 
-// The room for what a line spells, and for what the desk writes.
-pub(crate) const ROOM: usize = 4200;
+// The room for what a line spells, and for what the desk writes: enough for the longest packet, and for what is looked at behind it.
+pub(crate) const ROOM: usize = 65600;
 
 // What stands in lent output before the desk writes.
 pub(crate) const UNTOUCHED: u8 = b'~';
@@ -99,9 +99,13 @@ pub(crate) fn counted(label: &[u8], first: Sequence, count: u16) {
     number(b", count ", count as u64);
 }
 
+pub(crate) fn letter(label: &[u8], b: u8) {
+    words(label);
+    words(&[b]);
+}
+
 pub(crate) fn rejected(reason: u8) {
-    words(b"\n= rejected, reason ");
-    words(&[reason]);
+    letter(b"\n= rejected, reason ", reason);
 }
 
 // The message in the block at a place, and the place after it.

@@ -2,6 +2,7 @@
 ghost use Prim.Native.Nat.{_+_, _≤_};
 ghost use lib.ListN.{length};
 use crate::page;
+use memx_tcp::packet::Fields;
 use wire::fields;
 use wire::kinds::Password;
 use wire::kinds::Sequence;
@@ -99,12 +100,56 @@ fn soup(d: &[u8], n: usize, out: &mut [u8]) -> Written {
     }
 }
 
+// Fields that the type lacks have what stands in their place; the writer looks at none of them.
+fn tcp_fields(d: &[u8]) -> Fields
+    requires { ⌜ 48 ≤ length (now d) ⌝ }
+{
+    let kind = d[0];
+    let first = fields::get8(d, 1);
+    let second = fields::get8(d, 9);
+    let next = match kind {
+        5 | 8 | 10 => first,
+        _ => second,
+    };
+    let count = match kind {
+        7 => fields::get4(d, 1),
+        5 => fields::get4(d, 9),
+        _ => fields::get4(d, 17),
+    };
+    Fields {
+        kind,
+        letter: d[1],
+        count,
+        session: SessionId(first),
+        number: Sequence(next),
+        top: Sequence(second),
+    }
+}
+
+// What stands behind the fields is the body.
+fn tcp(d: &[u8], n: usize, out: &mut [u8]) -> Written {
+    if d.len() < FIELDS {
+        return Written::Refused(0);
+    }
+    let body = match d[0] {
+        1 | 2 | 6 | 9 | 100 => 2,
+        7 => 5,
+        3 | 10 | 102 => 9,
+        5 => 13,
+        8 | 103 => 17,
+        101 => 21,
+        _ => 1,
+    };
+    memx_tcp::writing::write(tcp_fields(d), rest(d, body, n), out)
+}
+
 // The second word's first letter says whose packet it is.
 fn packet(letter: u8, d: &[u8], n: usize, out: &mut [u8]) -> Written {
     match letter {
         b'd' => down(d, n, out),
         b'u' => up(d, n, out),
         b'm' => memx(d, n, out),
+        b't' => tcp(d, n, out),
         _ => soup(d, n, out),
     }
 }

@@ -18,6 +18,7 @@ pub trait Desk {
     fn read_ufo(packet: &[u8]) -> Seen<'_>;
     fn read_memx(packet: &[u8]) -> Seen<'_>;
     fn read_soup(packet: &[u8]) -> Seen<'_>;
+    fn read_tcp(packet: &[u8]) -> Seen<'_>;
 
     fn open_ufo(name: [u8; 10]) -> Self::Record;
     fn open_memx(session: u64) -> Self::Record;
@@ -63,6 +64,13 @@ macro_rules! readers {
         fn read_soup(packet: &[u8]) -> Seen<'_> {
             match $desk::soup::read(packet).expect(REFUSED) {
                 $desk::soup::Packet::Sequenced(payload) => seen(0, 1, payload),
+                other => panic!("{other:?}"),
+            }
+        }
+
+        fn read_tcp(packet: &[u8]) -> Seen<'_> {
+            match $desk::memx_tcp::read(packet).expect(REFUSED) {
+                $desk::memx_tcp::Packet::Sequenced(payload) => seen(0, 1, payload),
                 other => panic!("{other:?}"),
             }
         }

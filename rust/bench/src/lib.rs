@@ -8,11 +8,12 @@
 mod datagrams;
 mod desk;
 mod log;
-mod soup;
+mod stream;
 mod tape;
 
 use datagrams::{Memx, Ufo};
 use desk::{Ordinary, Proved};
+use stream::{Soup, Tcp};
 
 /// Replays so many messages, whole turns of the tape, and gives the checksum.
 pub type Run = fn(u64) -> u64;
@@ -32,7 +33,7 @@ pub struct Replay {
 }
 
 /// Every replay there is.
-pub const REPLAYS: [Replay; 5] = [
+pub const REPLAYS: [Replay; 6] = [
     Replay {
         name: "ufo",
         about: "UFO datagrams of 50 messages, each read and then taken into a session record",
@@ -54,8 +55,14 @@ pub const REPLAYS: [Replay; 5] = [
     Replay {
         name: "soup",
         about: "sequenced Soup packets, each read",
-        proved: soup::replay::<Proved>,
-        ordinary: soup::replay::<Ordinary>,
+        proved: stream::replay::<Soup, Proved>,
+        ordinary: stream::replay::<Soup, Ordinary>,
+    },
+    Replay {
+        name: "tcp",
+        about: "sequenced MEMX-TCP packets, each read",
+        proved: stream::replay::<Tcp, Proved>,
+        ordinary: stream::replay::<Tcp, Ordinary>,
     },
     Replay {
         name: "log",

@@ -26,8 +26,8 @@ macro_rules! answers {
 }
 
 answers! {
-    hp_read hp_wrote hp_block hp_opened hp_taken hp_standing hp_timed hp_wait hp_asked hp_yes
-    hp_logged
+    hp_read hp_wrote hp_block hp_tcp_reading hp_opened hp_taken hp_standing hp_timed hp_wait hp_asked
+    hp_yes hp_logged
 }
 
 /// What both desks answered, and the output as both left it.
@@ -42,6 +42,24 @@ impl<A: Answer> Agreed<A> {
     /// 0 or why both refused.
     pub fn refusal(self) -> u64 {
         self.answer.refusal()
+    }
+}
+
+impl Agreed<hp_wrote> {
+    /// Holds what both wrote against the packet that it was read from.
+    pub fn held_against(self, packet: &[u8]) -> Result<(), Difference> {
+        let Agreed { answer, out } = self;
+        if answer.refusal == 0 && out[..answer.bytes as usize] == *packet {
+            return Ok(());
+        }
+        Err(Difference {
+            size: packet.len(),
+            how: format!(
+                "read:    {}\nwritten: {}\nanswer: {answer:?}",
+                hex(packet),
+                hex(&out)
+            ),
+        })
     }
 }
 

@@ -5,6 +5,7 @@ use crate::dice::Dice;
 use crate::make;
 use crate::twin::Twin;
 use crate::Case;
+use hinurapay::flat::hp_tcp;
 use ordinary::flat as plain;
 
 /// The longest UFO and MEMX-UDP packet.
@@ -13,8 +14,14 @@ const DATAGRAM: usize = 1472;
 /// The longest Soup packet.
 const SOUP: usize = 4098;
 
+/// The longest MEMX-TCP packet.
+const TCP: usize = 65_538;
+
+/// More than any packet has beside its body.
+const FIXED: usize = 64;
+
 /// Every function of the face with its cases.
-pub const FUNCTIONS: [(&str, Case); 26] = [
+pub const FUNCTIONS: [(&str, Case); 28] = [
     ("hp_soup_read", soup_read),
     ("hp_ufo_read_down", ufo_read_down),
     ("hp_ufo_read_up", ufo_read_up),
@@ -26,6 +33,8 @@ pub const FUNCTIONS: [(&str, Case); 26] = [
     ("hp_ufo_write_message", ufo_write_message),
     ("hp_ufo_add_message", ufo_add_message),
     ("hp_memx_write", memx_write),
+    ("hp_tcp_read", tcp_read),
+    ("hp_tcp_write", tcp_write),
     ("hp_open_ufo", open_ufo),
     ("hp_open_memx", open_memx),
     ("hp_take", take),
@@ -114,7 +123,8 @@ fn next_block(dice: &mut Dice) -> Result<u64, Difference> {
 macro_rules! writing {
     ($function:ident, $fields:expr, $body:expr, $dice:expr) => {{
         let fields = $fields;
-        let needed = plain::$function(fields.twin(), &$body, &mut [0; SOUP]).bytes;
+        let mut ample = vec![0; $body.len() + FIXED];
+        let needed = plain::$function(fields.twin(), &$body, &mut ample).bytes;
         both!($function(fields, body, out); lent body = &$body; room out = room(needed, $dice))
             .map(Agreed::refusal)
     }};
@@ -160,6 +170,28 @@ fn ufo_add_message(dice: &mut Dice) -> Result<u64, Difference> {
 fn memx_write(dice: &mut Dice) -> Result<u64, Difference> {
     let (fields, body) = make::to_write(&[0, 1, 2, 2], &[2], false, DATAGRAM, dice);
     writing!(hp_memx_write, fields, body, dice)
+}
+
+fn tcp_read(dice: &mut Dice) -> Result<u64, Difference> {
+    let mut packet = make::tcp(dice);
+    make::damage(&mut packet, TCP, dice);
+    let read = both!(hp_tcp_read(bytes); lent bytes = &packet)?;
+    if read.answer.refusal == 0 {
+        tcp_written_again(read.answer.packet, &packet)?;
+    }
+    Ok(read.refusal())
+}
+
+/// Writes what was read: by both desks with the same bytes.
+fn tcp_written_again(fields: hp_tcp, packet: &[u8]) -> Result<(), Difference> {
+    let body = &packet[fields.start as usize..][..fields.length as usize];
+    both!(hp_tcp_write(fields, body, out); lent body = body; room out = blank(packet.len()))?
+        .held_against(packet)
+}
+
+fn tcp_write(dice: &mut Dice) -> Result<u64, Difference> {
+    let (fields, body) = make::tcp_to_write(dice);
+    writing!(hp_tcp_write, fields, body, dice)
 }
 
 /// A name where it is lent; while a smaller case is looked for there may be less than one.

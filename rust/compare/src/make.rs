@@ -2,9 +2,11 @@
 
 mod kept;
 mod packets;
+mod tcp;
 
 pub use kept::*;
 pub use packets::*;
+pub use tcp::*;
 
 use crate::dice::Dice;
 

@@ -1,5 +1,8 @@
 //! The smallest case that still shows a difference.
 
+/// How many bytes are tried, all in all, before what is left is taken for the smallest.
+const EFFORT: usize = 100_000_000;
+
 /// Takes bytes away, from the lent bytes and from the output, for as long as the desks differ.
 pub fn smallest(
     lent: &[u8],
@@ -11,14 +14,17 @@ pub fn smallest(
     (lent, out)
 }
 
-/// Takes away pieces, the large ones first, and keeps what is left where that still differs.
+/// Takes away pieces, the large ones first, and keeps what is left where that still differs. Very
+/// long bytes are given up on before every piece was tried.
 fn lessened(bytes: &[u8], differs: impl Fn(&[u8]) -> bool) -> Vec<u8> {
     let mut least = bytes.to_vec();
     let mut piece = least.len();
-    while piece > 0 {
+    let mut effort = EFFORT;
+    while piece > 0 && effort > 0 {
         let mut place = 0;
-        while place + piece <= least.len() {
+        while place + piece <= least.len() && effort > 0 {
             let rest = [&least[..place], &least[place + piece..]].concat();
+            effort = effort.saturating_sub(rest.len());
             if differs(&rest) {
                 least = rest;
             } else {

@@ -61,6 +61,8 @@ twins! {
     hp_read: refusal packet;
     hp_wrote: refusal bytes;
     hp_block: refusal start length next;
+    hp_tcp: r#type letter count session number top start length;
+    hp_tcp_reading: refusal packet;
     hp_record: style ended name session next top asked;
     hp_opened: refusal record;
     hp_taken: refusal bytes messages record;

@@ -1,14 +1,23 @@
 //! The two desks agree on every function of the C face, over more than a million seeded cases.
 
-use compare::{run, FUNCTIONS};
+use compare::dice::Dice;
+use compare::twin::Twin;
+use compare::{make, run, FUNCTIONS};
+use ordinary::flat::{hp_tcp_read, hp_tcp_write};
+use std::collections::BTreeSet;
 use std::sync::atomic::{AtomicUsize, Ordering};
 use std::thread;
 
-/// Cases of each function.
+/// Cases of each function but those of MEMX-TCP.
 const CASES: u64 = 45_000;
 
+/// Cases of each function of MEMX-TCP, which has seventeen types.
+const TCP_CASES: u64 = 110_000;
+
+const SEED: u64 = 8841;
+
 /// Every function, and exactly which refusals must come up among its cases (0: none).
-const EXPECTED: [(&str, &[usize]); 26] = [
+const EXPECTED: [(&str, &[usize]); 28] = [
     ("hp_soup_read", &[0, 1, 2, 3, 4, 5, 6, 7, 8]),
     ("hp_ufo_read_down", &[0, 1, 2, 3, 4, 5, 6, 7]),
     ("hp_ufo_read_up", &[0, 1, 2, 3, 4, 5, 6]),
@@ -20,6 +29,8 @@ const EXPECTED: [(&str, &[usize]); 26] = [
     ("hp_ufo_write_message", &[0, 2, 3, 4, 5, 6, 7, 9]),
     ("hp_ufo_add_message", &[0, 2, 3, 4, 5, 6, 7, 9]),
     ("hp_memx_write", &[0, 2, 3, 4, 6, 7, 9]),
+    ("hp_tcp_read", &[0, 1, 2, 3, 4, 5, 6]),
+    ("hp_tcp_write", &[0, 2, 3, 4, 5, 6, 9]),
     ("hp_open_ufo", &[0, 5, 6]),
     ("hp_open_memx", &[0]),
     ("hp_take", &[0, 1, 2, 3, 4, 5, 6, 7, 9, 10, 11, 12, 16]),
@@ -37,11 +48,20 @@ const EXPECTED: [(&str, &[usize]); 26] = [
     ("hp_log_end_packet", &[0, 9, 10, 12]),
 ];
 
+/// How many cases of a function are run.
+fn cases(name: &str) -> u64 {
+    if name.starts_with("hp_tcp") {
+        TCP_CASES
+    } else {
+        CASES
+    }
+}
+
 /// Runs the cases of one function; how many they were, or what is wrong.
 fn agree(place: usize) -> Result<u64, String> {
     let (name, refusals) = EXPECTED[place];
     assert_eq!(FUNCTIONS[place].0, name);
-    let tally = run(place, 8841, CASES)?;
+    let tally = run(place, SEED, cases(name))?;
     let seen: Vec<usize> = (0..17).filter(|&number| tally[number] > 0).collect();
     if seen != refusals {
         return Err(format!(
@@ -79,6 +99,35 @@ fn the_two_desks_agree_on_more_than_a_million_cases() {
         .collect();
     assert!(wrong.is_empty(), "{}", wrong.join("\n\n"));
     let cases: u64 = done.iter().flatten().sum();
-    assert_eq!(cases, 26 * CASES);
+    assert_eq!(cases, 26 * CASES + 2 * TCP_CASES);
     assert!(cases > 1_000_000);
+}
+
+/// The cases of a function of MEMX-TCP, from their start.
+fn tcp_cases(name: &str) -> impl Iterator<Item = Dice> {
+    let place = FUNCTIONS.iter().position(|&(one, _)| one == name);
+    let place = place.expect("the function has cases") as u64;
+    (0..cases(name)).map(move |case| Dice::seeded(SEED, place, case))
+}
+
+#[test]
+fn every_type_of_memx_tcp_is_among_the_cases() {
+    let (mut read, mut written) = (BTreeSet::new(), BTreeSet::new());
+    for mut dice in tcp_cases("hp_tcp_read") {
+        let mut packet = make::tcp(&mut dice);
+        make::damage(&mut packet, 65_538, &mut dice);
+        let reading = hp_tcp_read(&packet);
+        if reading.refusal == 0 {
+            read.insert(reading.packet.r#type);
+        }
+    }
+    for mut dice in tcp_cases("hp_tcp_write") {
+        let (fields, body) = make::tcp_to_write(&mut dice);
+        let mut out = vec![0; body.len() + 64];
+        if hp_tcp_write(fields.twin(), &body, &mut out).refusal == 0 {
+            written.insert(fields.r#type);
+        }
+    }
+    assert!(read.into_iter().eq(make::TCP_TYPES), "read");
+    assert!(written.into_iter().eq(make::TCP_TYPES), "written");
 }

@@ -2,7 +2,8 @@
 
 use compare::dice::Dice;
 use compare::make;
-use hinurapay::{flat, memx, soup, ufo, Refusal};
+use hinurapay::memx_tcp::{self, LoginReject, Mode, Packet, ReplayReject, StreamReject};
+use hinurapay::{flat, memx, soup, ufo, Refusal, Sequence, SessionId};
 
 const CASES: u64 = 20_000;
 
@@ -11,7 +12,7 @@ fn round_trips(
     make: fn(&mut Dice) -> Vec<u8>,
     limit: usize,
     again: fn(&[u8], &mut [u8]) -> Result<usize, Refusal>,
-    flat: fn(&[u8]) -> flat::hp_read,
+    refusal: fn(&[u8]) -> u64,
 ) {
     let mut taken = 0;
     for case in 0..CASES {
@@ -21,7 +22,7 @@ fn round_trips(
         let mut out = vec![0; packet.len()];
         let wrote = again(&packet, &mut out);
         let number = wrote.map_or_else(|refusal| u64::from(refusal.number()), |_| 0);
-        assert_eq!(number, flat(&packet).refusal, "{packet:02x?}");
+        assert_eq!(number, refusal(&packet), "{packet:02x?}");
         if let Ok(length) = wrote {
             assert_eq!(out[..length], packet);
             taken += 1;
@@ -36,7 +37,7 @@ fn soup_packets_come_back() {
         make::soup,
         4098,
         |packet, out| soup::write(&soup::read(packet)?, out),
-        flat::hp_soup_read,
+        |packet| flat::hp_soup_read(packet).refusal,
     );
 }
 
@@ -46,7 +47,7 @@ fn ufo_packets_from_the_server_come_back() {
         |dice| make::ufo_down(make::number(dice), dice),
         1472,
         |packet, out| ufo::write_down(&ufo::read_down(packet)?, out),
-        flat::hp_ufo_read_down,
+        |packet| flat::hp_ufo_read_down(packet).refusal,
     );
 }
 
@@ -62,7 +63,7 @@ fn ufo_packets_from_the_client_come_back() {
             }
             Ok(length)
         },
-        flat::hp_ufo_read_up,
+        |packet| flat::hp_ufo_read_up(packet).refusal,
     );
 }
 
@@ -78,7 +79,7 @@ fn ufo_packets_from_the_client_are_put_together_again() {
             }
             Ok(upstream.packet().len())
         },
-        flat::hp_ufo_read_up,
+        |packet| flat::hp_ufo_read_up(packet).refusal,
     );
 }
 
@@ -88,8 +89,82 @@ fn memx_packets_come_back() {
         |dice| make::memx(make::number(dice), make::number(dice), dice),
         1472,
         |packet, out| memx::write(&memx::read(packet)?, out),
-        flat::hp_memx_read,
+        |packet| flat::hp_memx_read(packet).refusal,
     );
+}
+
+#[test]
+fn memx_tcp_packets_come_back() {
+    round_trips(
+        make::tcp,
+        65_538,
+        |packet, out| memx_tcp::write(&memx_tcp::read(packet)?, out),
+        |packet| flat::hp_tcp_read(packet).refusal,
+    );
+}
+
+#[test]
+fn memx_tcp_fields_stand_in_their_places() {
+    let (session, next, highest) = (SessionId(7), Sequence(8), Sequence(9));
+    let packets: [(&[u8], Packet); 17] = [
+        (b"\0\0\0", Packet::Heartbeat),
+        (b"\x01\0\x01R", Packet::LoginAccepted(Mode::Replay)),
+        (
+            b"\x02\0\x01V",
+            Packet::LoginRejected(LoginReject::InvalidType),
+        ),
+        (
+            b"\x03\0\x08\0\0\0\0\0\0\0\x07",
+            Packet::StartOfSession(session),
+        ),
+        (b"\x04\0\0", Packet::EndOfSession),
+        (
+            b"\x05\0\x0c\0\0\0\0\0\0\0\x08\0\0\0\x0a",
+            Packet::ReplayBegin { next, pending: 10 },
+        ),
+        (
+            b"\x06\0\x01P",
+            Packet::ReplayRejected(ReplayReject::NotActive),
+        ),
+        (b"\x07\0\x04\0\0\0\x0a", Packet::ReplayComplete { sent: 10 }),
+        (
+            b"\x08\0\x10\0\0\0\0\0\0\0\x08\0\0\0\0\0\0\0\x09",
+            Packet::StreamBegin { next, highest },
+        ),
+        (
+            b"\x09\0\x01S",
+            Packet::StreamRejected(StreamReject::OutOfRange),
+        ),
+        (
+            b"\x0a\0\x08\0\0\0\0\0\0\0\x0b",
+            Packet::StreamComplete { total: 11 },
+        ),
+        (b"\x0b\0\x02HI", Packet::Sequenced(b"HI")),
+        (b"d\0\x03Pu:", Packet::LoginRequest { token: b"u:" }),
+        (
+            b"e\0\x14\0\0\0\0\0\0\0\x07\0\0\0\0\0\0\0\x08\0\0\0\x0a",
+            Packet::ReplayRequest {
+                session,
+                next,
+                count: 10,
+            },
+        ),
+        (
+            b"f\0\x08\0\0\0\0\0\0\0\x07",
+            Packet::ReplayAllRequest(session),
+        ),
+        (
+            b"g\0\x10\0\0\0\0\0\0\0\x07\0\0\0\0\0\0\0\x08",
+            Packet::StreamRequest { session, next },
+        ),
+        (b"h\0\x02HO", Packet::Unsequenced(b"HO")),
+    ];
+    for (bytes, packet) in packets {
+        assert_eq!(memx_tcp::read(bytes), Ok(packet));
+        let mut out = [0; 30];
+        assert_eq!(memx_tcp::write(&packet, &mut out), Ok(bytes.len()));
+        assert_eq!(out[..bytes.len()], *bytes);
+    }
 }
 
 #[test]

@@ -80,6 +80,11 @@ functions! {
     /// Writes a MEMX-UDP packet.
     hp_memx_write(fields: hp_packet, lent body, room out) -> hp_wrote;
 
+    /// Reads one whole MEMX-TCP packet, its three-byte header first.
+    hp_tcp_read(lent packet) -> hp_tcp_reading;
+    /// Writes a MEMX-TCP packet; `body` is the token or the payload.
+    hp_tcp_write(fields: hp_tcp, lent body, room out) -> hp_wrote;
+
     /// Opens a record of a UFO session; its `session` is 0.
     hp_open_ufo(name: &[u8; 10]) -> hp_opened;
     /// Opens a record of a MEMX-UDP session; its `name` is zeros.

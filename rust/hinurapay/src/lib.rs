@@ -38,6 +38,7 @@ mod ffi;
 mod kinds;
 mod lend;
 pub mod memx;
+pub mod memx_tcp;
 mod record;
 mod refusal;
 pub mod soup;

@@ -39,7 +39,7 @@ macro_rules! same_if_equal {
     )*};
 }
 
-same_if_equal!(u8, u16, u64, [u8; 6], [u8; 10]);
+same_if_equal!(u8, u16, u32, u64, [u8; 6], [u8; 10]);
 
 impl Same for f64 {
     fn same(&self, other: &Self) -> bool {
@@ -100,6 +100,34 @@ structs! {
         refusal: u64,
         /// How many bytes were written.
         bytes: u64,
+    }
+
+    /// The fields of one MEMX-TCP packet, those that its type lacks being 0.
+    hp_tcp {
+        /// 0 to 11, 100 to 104.
+        r#type: u8,
+        /// 1: the mode; 2, 6, 9: the reject code; 100: the token's type.
+        letter: u8,
+        /// 5: pending; 7: sent; 101: asked for.
+        count: u32,
+        /// 3, 101, 102, 103.
+        session: u64,
+        /// 5, 8, 101, 103: the next number; 10: the total.
+        number: u64,
+        /// 8: the highest number published.
+        top: u64,
+        /// 100: where the token begins; 11, 104: the payload.
+        start: u64,
+        /// And how many bytes it has.
+        length: u64,
+    }
+
+    /// A MEMX-TCP packet that was read.
+    hp_tcp_reading {
+        /// 0 or why it was refused.
+        refusal: u64,
+        /// Its fields.
+        packet: hp_tcp,
     }
 
     /// A session record.

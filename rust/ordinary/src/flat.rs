@@ -9,11 +9,13 @@
 
 mod clock;
 mod log;
+mod memx_tcp;
 mod packets;
 mod record;
 
 pub use clock::*;
 pub use log::*;
+pub use memx_tcp::*;
 pub use packets::*;
 pub use record::*;
 

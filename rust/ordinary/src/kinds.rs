@@ -18,7 +18,7 @@ pub struct User(pub [u8; 6]);
 #[derive(Clone, Copy, Debug, PartialEq, Eq, Hash)]
 pub struct Password(pub [u8; 10]);
 
-/// A session's number in MEMX-UDP.
+/// A session's number in MEMX-UDP and MEMX-TCP.
 #[derive(Clone, Copy, Debug, PartialEq, Eq, Hash)]
 pub struct SessionId(pub u64);
 

@@ -1,4 +1,4 @@
-//! The recording desk of document 01 in ordinary Rust, written from the paper alone.
+//! The recording desk of documents 01 and 02 in ordinary Rust, written from the papers alone.
 //!
 //! It stands beside the proved desk and shares nothing with it, so that the two can be held
 //! against each other case by case. [`flat`] has the shape of the C face; the other modules are
@@ -26,10 +26,11 @@
 //!   payload would begin; the length is 0.
 //! - The Soup number `00` has a leading zero (5); only `0` itself spells 0.
 //! - Writing a type that there is not: the packet would be the bytes that every packet of the
-//!   protocol has around the body (UFO 1, an upstream block 3, MEMX-UDP 18, Soup 2), so it is 2
-//!   where those and the body are over the limit, else 3.
+//!   protocol has around the body (UFO 1, an upstream block 3, MEMX-UDP 18, MEMX-TCP 3, Soup 2), so
+//!   it is 2 where those and the body are over the limit, else 3.
 //! - A Soup reject whose reason is a linefeed is refused in writing as 8, as in reading.
 //! - A UFO request has no bound but its bytes.
+//! - A MEMX-TCP length that is not how many bytes follow the header is 4.
 //! - Minus zero lies between 0 and any bound. The wait of 1000 while nothing was timed is held
 //!   between floor and ceiling too.
 //! - Asking refuses a rule or an elapsed time out of range (15) even if nothing is missing.
@@ -47,6 +48,7 @@ pub mod flat;
 pub mod kinds;
 pub mod lend;
 pub mod memx;
+pub mod memx_tcp;
 pub mod record;
 pub mod refusal;
 pub mod soup;

@@ -188,6 +188,57 @@ static void memx(void) {
     CHECK(taken.refusal == 11 && same_record(taken.record, opened.record) && laid("", 0));
 }
 
+static hp_tcp of_tcp_type(uint8_t type) {
+    hp_tcp fields;
+    memset(&fields, 0, sizeof fields);
+    fields.type = type;
+    return fields;
+}
+
+static void tcp(void) {
+    uint8_t begin[15] = {5, 0, 12, 0, 0, 0, 0, 0, 0, 0, 3, 0, 0, 0, 2}; /* a replay of two messages, from 3 on */
+    hp_tcp_reading read = hp_tcp_read(begin, sizeof begin);
+    CHECK(read.refusal == 0 && read.packet.type == 5 && read.packet.number == 3 && read.packet.count == 2);
+    CHECK(read.packet.letter == 0 && read.packet.session == 0 && read.packet.top == 0);
+    CHECK(read.packet.start == 0 && read.packet.length == 0);
+    CHECK(hp_tcp_read(begin, 0).refusal == 1);
+    CHECK(hp_tcp_read(begin, 14).refusal == 4);
+    begin[10] = 0;
+    read = hp_tcp_read(begin, sizeof begin);
+    CHECK(read.refusal == 6 && read.packet.type == 0 && read.packet.count == 0);
+    begin[0] = 12;
+    CHECK(hp_tcp_read(begin, sizeof begin).refusal == 3);
+
+    static uint8_t longest[65539] = {11, 255, 255};
+    read = hp_tcp_read(longest, 65538);
+    CHECK(read.refusal == 0 && read.packet.type == 11 && read.packet.start == 3 && read.packet.length == 65535);
+    CHECK(hp_tcp_read(longest, 65539).refusal == 2);
+
+    static const uint8_t login[13] = {100, 0, 10, 'P', 'm', 'e', ':', 's', 'e', 'c', 'r', 'e', 't'};
+    read = hp_tcp_read(login, sizeof login);
+    CHECK(read.refusal == 0 && read.packet.type == 100 && read.packet.letter == 'P');
+    CHECK(read.packet.start == 4 && read.packet.length == 9);
+
+    clear();
+    hp_tcp fields = of_tcp_type(100);
+    CHECK(turned_down(hp_tcp_write(fields, login + 4, 9, out, sizeof out), 5));
+    fields.letter = 'P';
+    CHECK(turned_down(hp_tcp_write(fields, longest, 256, out, sizeof out), 4));
+    CHECK(turned_down(hp_tcp_write(fields, longest, 65535, out, sizeof out), 2));
+    CHECK(turned_down(hp_tcp_write(fields, login + 4, 9, out, 12), 9));
+    CHECK(wrote(hp_tcp_write(fields, login + 4, 9, out, 13), login, 13));
+
+    static const uint8_t request[23] = {101, 0, 20, 0, 0, 0, 0, 0, 0, 0, 7, 0, 0, 0, 0, 0, 0, 0, 3, 0, 0, 0, 2};
+    clear();
+    fields = of_tcp_type(101);
+    fields.session = 7;
+    fields.count = 2;
+    CHECK(turned_down(hp_tcp_write(fields, NULL, 0, out, sizeof out), 6));
+    fields.number = 3;
+    CHECK(turned_down(hp_tcp_write(fields, login, 1, out, sizeof out), 4));
+    CHECK(wrote(hp_tcp_write(fields, NULL, 0, out, sizeof out), request, sizeof request));
+}
+
 /* two messages taken into a fresh record */
 static void delivery(void) {
     static const uint8_t packet[] = {'S', 0, 0, 0, 1, 0, 2, 0, 2, 'H', 'I', 0, 0};
@@ -350,6 +401,7 @@ int main(void) {
     ufo_up();
     adding();
     memx();
+    tcp();
     delivery();
     record();
     patience();

@@ -161,7 +161,7 @@ fn spot(place: u64) -> usize {
 
 /// A body where the type has none makes a packet of `fixed` bytes too long: 2 over the limit,
 /// else 4.
-fn bodiless(fixed: usize, body: &[u8], limit: usize) -> Result<(), Refusal> {
+pub(super) fn bodiless(fixed: usize, body: &[u8], limit: usize) -> Result<(), Refusal> {
     if fixed + body.len() > limit {
         Err(Refusal::Oversize)
     } else if !body.is_empty() {
@@ -173,7 +173,7 @@ fn bodiless(fixed: usize, body: &[u8], limit: usize) -> Result<(), Refusal> {
 
 /// A type that there is not, with as much around the body as any packet has: 2 over the limit,
 /// else 3.
-fn unknown(around: usize, body: &[u8], limit: usize) -> Refusal {
+pub(super) fn unknown(around: usize, body: &[u8], limit: usize) -> Refusal {
     if around + body.len() > limit {
         Refusal::Oversize
     } else {

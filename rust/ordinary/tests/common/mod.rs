@@ -84,6 +84,33 @@ pub fn memx_data(session: u64, first: u64, messages: &[&[u8]]) -> Vec<u8> {
     [&memx(2, session, first)[..], &count, &blocks(messages)].concat()
 }
 
+/// A MEMX-TCP packet with these bytes behind its header.
+pub fn tcp(kind: u8, bytes: &[u8]) -> Vec<u8> {
+    let length = (bytes.len() as u16).to_be_bytes();
+    [&[kind], &length[..], bytes].concat()
+}
+
+/// A MEMX-TCP packet of every type, laid out by hand.
+pub const TCP: [&[u8]; 17] = [
+    b"\0\0\0",
+    b"\x01\0\x01T",
+    b"\x02\0\x01U",
+    b"\x03\0\x08\x01\x02\x03\x04\x05\x06\x07\x08",
+    b"\x04\0\0",
+    b"\x05\0\x0c\0\0\0\0\0\0\x01\x02\0\0\x03\x04",
+    b"\x06\0\x01A",
+    b"\x07\0\x04\x05\x06\x07\x08",
+    b"\x08\0\x10\0\0\0\0\0\0\0\x09\0\0\0\0\0\x0a\x0b\x0c",
+    b"\x09\0\x01P",
+    b"\x0a\0\x08\0\0\0\0\0\0\x0d\x0e",
+    b"\x0b\0\x02HI",
+    b"d\0\x0aPme:secret",
+    b"e\0\x14\x11\x12\x13\x14\x15\x16\x17\x18\0\0\0\0\0\0\0\x19\0\0\0\x1a",
+    b"f\0\x08\x21\x22\x23\x24\x25\x26\x27\x28",
+    b"g\0\x10\x31\x32\x33\x34\x35\x36\x37\x38\0\0\0\0\0\0\0\0",
+    b"h\0\x03HO!",
+];
+
 /// A Soup packet.
 pub fn soup(kind: u8, payload: &[u8]) -> Vec<u8> {
     [&[kind], payload, b"\n"].concat()
@@ -106,6 +133,9 @@ pub fn number<T>(answer: Result<T, Refusal>) -> u8 {
 
 const UNTOUCHED: u8 = 0xee;
 
+/// More than any packet has.
+const AMPLE: usize = 70_000;
+
 /// What a writer gives with room for `room` bytes: what it wrote or its refusal's number. Bytes
 /// past what was written, and on a refusal all of them, must be as before.
 pub fn write_into(
@@ -126,7 +156,7 @@ pub fn write_into(
 /// As [`write_into`], with room enough for anything. The same again must be had with just the
 /// room that it takes, and 9 with a byte less.
 pub fn written(write: impl Fn(&mut [u8]) -> Result<usize, Refusal>) -> Result<Vec<u8>, u8> {
-    let whole = write_into(5000, &write);
+    let whole = write_into(AMPLE, &write);
     match &whole {
         Ok(bytes) => {
             assert_eq!(write_into(bytes.len(), &write), whole);

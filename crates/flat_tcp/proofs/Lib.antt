@@ -1,0 +1,2 @@
+pub mod Round
+mod Settled
