@@ -2,10 +2,10 @@
 -- Assumes nothing.
 use Prim.Native.Nat.{ℕ}
 use mathlib.Core.Path.{_≡_, refl}
-use mathlib.Core.List.{List, [], _∷_}
+use mathlib.Core.List.{List}
 use native.Mathlib.Omega.{arith}
 use borrow.Author.Tests.{eqb-true}
-use lib.ListN.{length, getD, take, drop}
+use lib.ListN.{length, getD, take, drop, drop-of-length-le}
 use lib.Seq.{take-length}
 use Rattle.wire.specs.Fields.{Bytes}
 use Rattle.wire.specs.Checks.{_is_, Verdict, refused, taken}
@@ -39,11 +39,6 @@ never-0 : (d : List ℕ) → read d ≡ refused 0 → ⊥
 unfolding read
 never-0 d = never-taken (checks d) (packetIn d) refl
 
--- a list of no length
-none : (s : List ℕ) → length s ≡ 0 → s ≡ []
-none [] e = refl
-none (x ∷ s) e = absurd (omega arith)
-
 module _ (d : List ℕ) (q : Packet) (e : read d ≡ taken q) where
   same : packetIn d ≡ q
   unfolding read
@@ -57,7 +52,7 @@ module _ (d : List ℕ) (q : Packet) (e : read d ≡ taken q) where
   body : take (length (drop (endIn d) d)) (drop (startOf (kindIn d)) d) ≡ drop (endIn d) d
   body =
       by-test (mostOf (kindIn d) is 0)
-      (λ z. let f = framed .rest in let m = eqb-true (mostOf (kindIn d)) 0 z in let l = none (drop (endIn d) d) (omega arith) in rw l)
+      (λ z. let f = framed .rest in let m = eqb-true (mostOf (kindIn d)) 0 z in let l = drop-of-length-le (drop (endIn d) d) {i = 0} (omega arith) in rw l)
       (λ z. rw z (take-length (drop (endIn d) d)))
 
   -- the fields laid flat are those of the packet

@@ -5,11 +5,11 @@ use mathlib.Core.Path.{_≡_, refl}
 use mathlib.Core.List.{List, [], _∷_}
 use native.Mathlib.Omega.{arith}
 use borrow.Author.Tests.{eqb-true}
-use lib.ListN.{length, getD, drop}
+use lib.ListN.{length, getD, drop, drop-of-length-le}
 use lib.Seq.{getD-drop, drop-drop}
 use Rattle.wire.specs.Fields.{be}
 use Rattle.wire.specs.Checks.{_is_}
-use Rattle.memx_tcp.specs.Layout.{Field, fieldsOf, size}
+use Rattle.memx_tcp.specs.Layout.{fieldsOf, size}
 use Rattle.memx_tcp.specs.Packet.{headerSize}
 use Rattle.memx_tcp.specs.Read.{valuesIn}
 use Rattle.memx_tcp.specs.Reading.{fields, fieldsBy}
@@ -88,13 +88,9 @@ module _ (s : List ℕ) where
 abbrev arms : List (List ℕ)
 arms = logins ∷ (103 ∷ []) ∷ (101 ∷ []) ∷ (10 ∷ []) ∷ (8 ∷ []) ∷ (7 ∷ []) ∷ (5 ∷ []) ∷ (3 ∷ 102 ∷ []) ∷ (6 ∷ 9 ∷ 100 ∷ []) ∷ []
 
-none : (fs : List Field) → length fs ≡ 0 → fs ≡ []
-none [] e = refl
-none (f ∷ fs) e = absurd (omega arith)
-
 -- a type in none of them has no fields
 pub no-fields-in : (k : ℕ) → Missed arms k → fieldsOf k ≡ []
 unfolding fieldsOf
 no-fields-in k m =
-    none (fieldsOf k)
-    (eqb-true (length (fieldsOf k)) 0 (otherwise (λ r. length (r .fields) is 0) arms refl (λ kind. refl) k m))
+    let e = eqb-true (length (fieldsOf k)) 0 (otherwise (λ r. length (r .fields) is 0) arms refl (λ kind. refl) k m) in
+    drop-of-length-le (fieldsOf k) {i = 0} (omega arith)
