@@ -1,5 +1,8 @@
 pub mod Digits
 pub mod Powers
 pub mod Written
+pub mod Stored
+pub mod Spaces
+pub mod Ends
 pub mod Told
 mod Settled

@@ -7,7 +7,7 @@ use native.Mathlib.Nat.{add-zero, zero-add, add-suc, suc-add, le-of-suc-le-suc, 
 use lib.ListN.{getD}
 
 -- n powers of ten, from the one of place i on
-abbrev powers : ℕ → ℕ → List ℕ
+abbrev pub powers : ℕ → ℕ → List ℕ
 powers zero i = []
 powers (suc n) i = 10 ^ i ∷ powers n (suc i)
 

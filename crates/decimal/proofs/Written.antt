@@ -4,16 +4,13 @@ use Prim.Native.Nat.{ℕ, zero, suc, _+_, _-_, _*_, _/_, _%_, _^_, _≤_, _<_}
 use mathlib.Core.Path.{_≡_, refl, sym, ap, _∙_}
 use mathlib.Core.List.{List, [], _∷_}
 use mathlib.Core.Bool.{true, false, not, and-false}
-use native.Mathlib.Nat.{mod-lt, mod-one, mod-eq-of-lt, pow-succ', pow-le-pow-right, le-div-iff-mul-le, div-lt-iff-lt-mul, mul-add-div-right, mul-add-mod-self-right, mul-assoc, one-mul, mul-le-mul-right, le-trans, le-of-suc-le-suc, not-suc-le-zero, zero-add}
-use native.Mathlib.Numerals.{add-one}
+use native.Mathlib.Nat.{mod-lt, mod-one, mod-eq-of-lt, pow-succ', pow-le-pow-right, le-div-iff-mul-le, div-lt-iff-lt-mul, mul-add-div-right, mul-add-mod-self-right, mul-assoc, one-mul, mul-le-mul-right, le-trans}
 use native.Mathlib.Omega.{arith}
 use lib.Arith.{mod-mul, digits-div, digits-lt}
 use lib.Dec.{eqb, leb}
-use lib.ListN.{length, getD, take, set}
-use lib.Seq.{take-suc, length-take-le, sets}
+use lib.ListN.{length}
 use borrow.Author.Tests.{ne-eqb, le-leb, lt-leb, eqb-true, eqb-false, leb-true, leb-false, not-true}
 use Rattle.text.specs.Text.{blank}
-use Rattle.wire.proofs.Width.{sets-after}
 use Rattle.decimal.specs.Decimal.{digit, digits, trimmed, leadingZero, wellFormed, spelt, valueOf, character, places, written}
 use Rattle.wire.proofs.Tests.{by-test, and-left, and-right}
 use Rattle.decimal.proofs.Digits.{digit-low, digit-high, ten-pos}
@@ -26,25 +23,6 @@ length-places (suc k) n = ap suc (length-places k n)
 pub length-written : (n : ℕ) → length (written n) ≡ 20
 unfolding written
 length-written n = length-places 20 n
-
--- ---- storing the characters one by one
-
-getD-places : (k n i : ℕ) → i < k → getD (places k n) i 0 ≡ character n (k - 1 - i)
-unfolding places
-getD-places zero n i h = absurd (not-suc-le-zero h)
-getD-places (suc k) n zero h = ap (character n) (omega arith)
-getD-places (suc k) n (suc i) h =
-    let e : k - 1 - i ≡ suc k - 1 - suc i = omega arith in
-    getD-places k n i (le-of-suc-le-suc h) ∙ ap (character n) e
-
--- i characters are stored, and one more
-pub one-more : (d : List ℕ) (n i v : ℕ) → i < 20 → v ≡ character n (19 - i) → set (sets d 0 (take i (written n))) i v ≡ sets d 0 (take (i + 1) (written n))
-unfolding written
-one-more d n i v h e =
-    let w = places 20 n in
-    let l : length (take i w) ≡ i = length-take-le i w (rw length-places (omega arith)) in
-    let j : i < length w = rw length-places h in
-    rw (add-one, take-suc w i 0 j, getD-places 20 n i h, ← e, ← sets-after d 0 i (take i w) (v ∷ []) l, zero-add)
 
 -- ---- the digits of a number
 
@@ -79,11 +57,11 @@ spelt-plain (suc k) n =
 -- ---- reading what was written
 
 -- a place that the number reaches, and one that it doesn't
-reached : (k n : ℕ) → 10 ^ k ≤ n → character n k ≡ 48 + n / 10 ^ k % 10
+pub reached : (k n : ℕ) → 10 ^ k ≤ n → character n k ≡ 48 + n / 10 ^ k % 10
 unfolding character
 reached k n h = by-test (eqb k 0) (λ t. rw t) (λ t. rw (t, le-leb _ _ h))
 
-unreached : (k n : ℕ) → 0 < k → n < 10 ^ k → character n k ≡ 32
+pub unreached : (k n : ℕ) → 0 < k → n < 10 ^ k → character n k ≡ 32
 unfolding character
 unreached k n p l = rw (ne-eqb k 0 (λ e. omega arith), lt-leb (10 ^ k) n l)
 
@@ -168,7 +146,7 @@ module _ (b : ℕ) (s : List ℕ) (e : digits (b ∷ s) ≡ true) where
   small : b - 48 < 10
   small = omega (arith, digit-high b first)
 
-spelt-lt : (s : List ℕ) → digits s ≡ true → spelt s < 10 ^ length s
+pub spelt-lt : (s : List ℕ) → digits s ≡ true → spelt s < 10 ^ length s
 unfolding spelt
 spelt-lt [] e = omega arith
 spelt-lt (b ∷ s) e = rw pow-succ' (digits-lt {m = 10} (small b s e) (spelt-lt s (rest b s e)))

@@ -8,7 +8,16 @@ pub struct Seen<'a> {
     pub body: &'a [u8],
 }
 
-/// What is called on a desk. Nothing in a replay may be refused, so that a refusal panics.
+/// What a login says: user and password where it is asked for, the session, and the number of the
+/// next message.
+pub struct Login {
+    pub who: Option<([u8; 6], [u8; 10])>,
+    pub session: [u8; 10],
+    pub next: u64,
+}
+
+/// What is called on a desk. Nothing but a login may be refused in a replay, so that any other
+/// refusal panics.
 pub trait Desk {
     /// A session record.
     type Record;
@@ -19,6 +28,10 @@ pub trait Desk {
     fn read_memx(packet: &[u8]) -> Seen<'_>;
     fn read_soup(packet: &[u8]) -> Seen<'_>;
     fn read_tcp(packet: &[u8]) -> Seen<'_>;
+    /// Reads a login or gives the refusal's number.
+    fn read_login(packet: &[u8]) -> Result<Login, u8>;
+    /// The packet of a login.
+    fn write_login<'a>(login: &Login, out: &'a mut [u8]) -> &'a [u8];
 
     fn open_ufo(name: [u8; 10]) -> Self::Record;
     fn open_memx(session: u64) -> Self::Record;
@@ -33,11 +46,12 @@ pub trait Desk {
     fn answer<'a>(log: &Self::Log<'_>, first: u32, count: u16, out: &'a mut [u8]) -> &'a [u8];
 }
 
-const REFUSED: &str = "nothing in a replay is refused";
+const REFUSED: &str = "nothing in a replay is refused but logins";
 
-/// The readers of a desk, which both crates name alike.
-macro_rules! readers {
-    ($desk:ident) => {
+/// What is read and written of packets, which both crates name alike; the desk is named by where
+/// its kinds are.
+macro_rules! packets {
+    ($desk:ident $(:: $kinds:ident)?) => {
         fn read_ufo(packet: &[u8]) -> Seen<'_> {
             match $desk::ufo::read_down(packet).expect(REFUSED) {
                 $desk::ufo::Down::Sequenced {
@@ -74,6 +88,45 @@ macro_rules! readers {
                 other => panic!("{other:?}"),
             }
         }
+
+        // inlined, so that Soup's reader is compiled once more here and `read_soup` is left alone
+        #[inline]
+        fn read_login(packet: &[u8]) -> Result<Login, u8> {
+            use $desk::soup::Packet;
+            let (who, session, next) = match $desk::soup::read(packet) {
+                Ok(Packet::Accepted { session, next }) => (None, session, next),
+                Ok(Packet::Login {
+                    user,
+                    password,
+                    session,
+                    next,
+                }) => (Some((user.0, password.0)), session, next),
+                Ok(other) => panic!("{other:?}"),
+                Err(refusal) => return Err(refusal.number()),
+            };
+            Ok(Login {
+                who,
+                session: session.0,
+                next: next.0,
+            })
+        }
+
+        fn write_login<'a>(login: &Login, out: &'a mut [u8]) -> &'a [u8] {
+            use $desk::$($kinds::)?{Name, Password, Sequence, User};
+            use $desk::soup::Packet;
+            let (session, next) = (Name(login.session), Sequence(login.next));
+            let packet = match login.who {
+                None => Packet::Accepted { session, next },
+                Some((user, password)) => Packet::Login {
+                    user: User(user),
+                    password: Password(password),
+                    session,
+                    next,
+                },
+            };
+            let length = $desk::soup::write(&packet, out).expect(REFUSED);
+            &out[..length]
+        }
     };
 }
 
@@ -88,7 +141,7 @@ impl Desk for Proved {
     type Record = hinurapay::Record;
     type Log<'a> = hinurapay::Log<'a>;
 
-    readers!(hinurapay);
+    packets!(hinurapay);
 
     fn open_ufo(name: [u8; 10]) -> Self::Record {
         hinurapay::Record::open_ufo(hinurapay::Name(name)).expect(REFUSED)
@@ -129,7 +182,7 @@ impl Desk for Ordinary {
     type Record = ordinary::record::Record;
     type Log<'a> = (ordinary::lend::Log, &'a mut [u8]);
 
-    readers!(ordinary);
+    packets!(ordinary::kinds);
 
     fn open_ufo(name: [u8; 10]) -> Self::Record {
         ordinary::record::Record::open_ufo(ordinary::kinds::Name(name)).expect(REFUSED)

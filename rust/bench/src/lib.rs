@@ -1,13 +1,14 @@
 //! Replays of many small messages, each the same through the proved desk and the ordinary one.
 //!
-//! A replay gives the messages of a tape to a desk, panics if any is refused, and answers with a
-//! checksum of what the desk said and wrote.
+//! A replay gives the messages of a tape to a desk and answers with a checksum of what the desk
+//! said and wrote. It panics if any is refused, but for `login`, where a refusal is an answer too.
 
 #![deny(missing_docs)]
 
 mod datagrams;
 mod desk;
 mod log;
+mod login;
 mod stream;
 mod tape;
 
@@ -18,6 +19,7 @@ use stream::{Soup, Tcp};
 /// Replays so many messages, whole turns of the tape, and gives the checksum.
 pub type Run = fn(u64) -> u64;
 
+pub use login::logins;
 pub use tape::TURN;
 
 /// One replay, through each desk.
@@ -33,7 +35,7 @@ pub struct Replay {
 }
 
 /// Every replay there is.
-pub const REPLAYS: [Replay; 6] = [
+pub const REPLAYS: [Replay; 8] = [
     Replay {
         name: "ufo",
         about: "UFO datagrams of 50 messages, each read and then taken into a session record",
@@ -57,6 +59,18 @@ pub const REPLAYS: [Replay; 6] = [
         about: "sequenced Soup packets, each read",
         proved: stream::replay::<Soup, Proved>,
         ordinary: stream::replay::<Soup, Ordinary>,
+    },
+    Replay {
+        name: "login",
+        about: "Soup logins, asked for and accepted, each read, one in ten damaged in its number",
+        proved: login::read::<Proved>,
+        ordinary: login::read::<Ordinary>,
+    },
+    Replay {
+        name: "login-write",
+        about: "the same logins, none damaged, each written",
+        proved: login::write::<Proved>,
+        ordinary: login::write::<Ordinary>,
     },
     Replay {
         name: "tcp",

@@ -67,7 +67,9 @@ fn main() -> ExitCode {
         println!("{:016x}", run(messages));
         return ExitCode::SUCCESS;
     }
-    println!("{messages} messages of 4 to 20 bytes; buffers are not cleared; best of {ROUNDS}");
+    println!(
+        "{messages} messages of 4 to 20 bytes, or logins; buffers not cleared; best of {ROUNDS}"
+    );
     for each in &REPLAYS {
         if replay.is_none_or(|one| one.name == each.name) {
             compare(each, messages);

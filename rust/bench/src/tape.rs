@@ -39,6 +39,15 @@ impl Sum {
         self.add(bytes.last().copied().unwrap_or_default().into());
     }
 
+    /// Counts in a name of at most sixteen bytes, all of them.
+    pub fn name<const LENGTH: usize>(&mut self, name: [u8; LENGTH]) {
+        let mut bytes = [0; 16];
+        bytes[..LENGTH].copy_from_slice(&name);
+        let number = u128::from_le_bytes(bytes);
+        self.add(number as u64);
+        self.add((number >> 64) as u64);
+    }
+
     /// What it came to.
     pub fn total(self) -> u64 {
         self.0

@@ -5,7 +5,7 @@ use crate::dice::Dice;
 use crate::make;
 use crate::twin::Twin;
 use crate::Case;
-use hinurapay::flat::hp_tcp;
+use hinurapay::flat::{hp_packet, hp_tcp, hp_wrote};
 use ordinary::flat as plain;
 
 /// The longest UFO and MEMX-UDP packet.
@@ -67,7 +67,33 @@ fn room(needed: u64, dice: &mut Dice) -> Vec<u8> {
 fn soup_read(dice: &mut Dice) -> Result<u64, Difference> {
     let mut packet = make::soup(dice);
     make::damage(&mut packet, SOUP, dice);
-    both!(hp_soup_read(bytes); lent bytes = &packet).map(Agreed::refusal)
+    soup_both_ways(&packet)
+}
+
+/// Reads a Soup packet by both desks; what they take they write again with the same bytes. Says
+/// with which refusal they answered (0: none).
+pub fn soup_both_ways(packet: &[u8]) -> Result<u64, Difference> {
+    let read = both!(hp_soup_read(bytes); lent bytes = packet)?;
+    if read.answer.refusal == 0 {
+        soup_laid(read.answer.packet, packet)?.held_against(packet)?;
+    }
+    Ok(read.refusal())
+}
+
+/// Writes the fields of a Soup packet by both desks; what they write is that packet. Says with
+/// which refusal they answered (0: none).
+pub fn soup_written(fields: hp_packet, packet: &[u8]) -> Result<u64, Difference> {
+    let wrote = soup_laid(fields, packet)?;
+    match wrote.answer.refusal {
+        0 => wrote.held_against(packet).map(|()| 0),
+        refusal => Ok(refusal),
+    }
+}
+
+/// Writes the fields of a Soup packet, and the body that it has, with just its room.
+fn soup_laid(fields: hp_packet, packet: &[u8]) -> Result<Agreed<hp_wrote>, Difference> {
+    let body = &packet[fields.start as usize..][..fields.length as usize];
+    both!(hp_soup_write(fields, body, out); lent body = body; room out = blank(packet.len()))
 }
 
 fn ufo_read_down(dice: &mut Dice) -> Result<u64, Difference> {
@@ -131,7 +157,8 @@ macro_rules! writing {
 }
 
 fn soup_write(dice: &mut Dice) -> Result<u64, Difference> {
-    let (fields, mut body) = make::to_write(b"+SUHZROJAL", b"+SU", true, SOUP, dice);
+    let (mut fields, mut body) = make::to_write(b"+SUHZROJAL", b"+SU", true, SOUP, dice);
+    fields.number = make::decimal_number(dice);
     if !dice.one_in(4) {
         make::without_linefeeds(&mut body);
     }

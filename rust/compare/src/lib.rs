@@ -11,7 +11,7 @@ mod smallest;
 pub mod twin;
 
 pub use both::Difference;
-pub use cases::FUNCTIONS;
+pub use cases::{soup_both_ways, soup_written, FUNCTIONS};
 
 use dice::Dice;
 

@@ -1,35 +1,76 @@
 //! Soup's number in twenty characters: spaces, then digits.
+//!
+//! Eight characters are read at a time, as a word that has the first of them in its lowest byte.
 
+use crate::fields::take;
 use crate::refusal::Refusal;
 
-/// The powers of ten by digit place, the last digit's place first.
-const POWERS: [u64; 20] = {
-    let mut powers = [1; 20];
-    let mut place = 1;
-    while place < powers.len() {
-        powers[place] = powers[place - 1] * 10;
-        place += 1;
-    }
-    powers
-};
+/// A word of spaces.
+const BLANK: u64 = each(b' ');
 
-/// The digits of a field, none if it is blank; a field that isn't spaces and then digits without
-/// a leading zero is 5.
-pub fn digits(field: &[u8; 20]) -> Result<&[u8], Refusal> {
-    let padding = field.iter().take_while(|&&byte| byte == b' ').count();
-    let digits = &field[padding..];
-    let lawful = digits.iter().all(u8::is_ascii_digit) && (digits.len() < 2 || digits[0] != b'0');
-    lawful.then_some(digits).ok_or(Refusal::Form)
+/// The last word of 0.
+const NOUGHT: u64 = u64::from_le_bytes(*b"       0");
+
+/// One more than eight digits can say.
+const EIGHT_DIGITS: u64 = 100_000_000;
+
+/// The number that a field says: spaces, then digits without a leading zero, or it is 5; blank
+/// is 6; above 2^64-1 is 7.
+#[inline]
+pub fn read(field: &[u8; 20]) -> Result<u64, Refusal> {
+    let mut rest = &field[..];
+    // with four spaces more before them the first four characters are a word, too
+    let four = u32::from_le_bytes(take(&mut rest)?);
+    let high = u64::from(four) << 32 | BLANK >> 32;
+    let middle = u64::from_le_bytes(take(&mut rest)?);
+    let low = u64::from_le_bytes(take(&mut rest)?);
+    match (high, middle, low) {
+        (BLANK, BLANK, BLANK) => Err(Refusal::Blank),
+        (BLANK, BLANK, NOUGHT) => Ok(0),
+        (BLANK, BLANK, _) => leading(low),
+        (BLANK, _, _) => Ok(leading(middle)? * EIGHT_DIGITS + following(low)?),
+        _ => {
+            let high = leading(high)?;
+            let rest = following(middle)? * EIGHT_DIGITS + following(low)?;
+            let high = high.checked_mul(EIGHT_DIGITS * EIGHT_DIGITS);
+            high.and_then(|high| high.checked_add(rest))
+                .ok_or(Refusal::Bound)
+        }
+    }
 }
 
-/// What the digits say; above 2^64-1 is 7.
-pub fn value(digits: &[u8]) -> Result<u64, Refusal> {
-    let mut places = digits.iter().rev().zip(POWERS);
-    places
-        .try_fold(0u64, |sum, (&digit, power)| {
-            sum.checked_add(power.checked_mul(u64::from(digit - b'0'))?)
-        })
-        .ok_or(Refusal::Bound)
+/// What the word says in which the digits begin, after spaces or at once; a leading zero is 5.
+#[inline]
+fn leading(word: u64) -> Result<u64, Refusal> {
+    let padding = (word ^ BLANK).trailing_zeros() & !7;
+    let digits = (word ^ each(b'0')) >> padding;
+    if digits as u8 == 0 {
+        return Err(Refusal::Form);
+    }
+    sum(digits << padding)
+}
+
+/// What a word of eight digits says.
+#[inline]
+fn following(word: u64) -> Result<u64, Refusal> {
+    sum(word ^ each(b'0'))
+}
+
+/// The values of eight digits, put together by two, by four and all; a value above 9 is 5.
+#[inline]
+fn sum(digits: u64) -> Result<u64, Refusal> {
+    // a byte above 9 has its highest bit set, or has it set by 0x76 more
+    if (digits | digits.wrapping_add(each(0x76))) & each(0x80) != 0 {
+        return Err(Refusal::Form);
+    }
+    let twos = digits.wrapping_mul(10 << 8 | 1) >> 8 & 0x00ff_00ff_00ff_00ff;
+    let fours = twos.wrapping_mul(100 << 16 | 1) >> 16 & 0x0000_ffff_0000_ffff;
+    Ok(fours.wrapping_mul(10_000 << 32 | 1) >> 32)
+}
+
+/// A word that has the same byte eight times.
+const fn each(byte: u8) -> u64 {
+    u64::from_le_bytes([byte; 8])
 }
 
 /// The number as the field that says it.
@@ -50,29 +91,84 @@ pub fn field(number: u64) -> [u8; 20] {
 mod tests {
     use super::*;
 
+    fn padded(text: &str) -> [u8; 20] {
+        format!("{text:>20}").into_bytes().try_into().unwrap()
+    }
+
     fn read(text: &str) -> Result<u64, Refusal> {
-        let field = format!("{text:>20}").into_bytes().try_into().unwrap();
-        value(digits(&field)?)
+        super::read(&padded(text))
+    }
+
+    /// What the standard library reads, if it writes the same again.
+    fn expected(field: &[u8; 20]) -> Result<u64, Refusal> {
+        let text = std::str::from_utf8(field).map_err(|_| Refusal::Form)?;
+        let text = text.trim_start_matches(' ');
+        if text.is_empty() {
+            return Err(Refusal::Blank);
+        }
+        let number: u128 = text.parse().map_err(|_| Refusal::Form)?;
+        if number.to_string() != text {
+            return Err(Refusal::Form);
+        }
+        number.try_into().map_err(|_| Refusal::Bound)
     }
 
     #[test]
     fn every_number_of_digits_is_read_and_written() {
-        for power in POWERS {
+        for power in (0..20).map(|place| 10u64.pow(place)) {
             for number in [power - 1, power, power + 1, power + power / 3] {
                 assert_eq!(read(&number.to_string()), Ok(number));
-                assert_eq!(field(number).to_vec(), format!("{number:>20}").into_bytes());
+                assert_eq!(field(number), padded(&number.to_string()));
             }
         }
-        assert_eq!(POWERS[19], 10_000_000_000_000_000_000);
         assert_eq!(read("18446744073709551615"), Ok(u64::MAX));
         assert_eq!(field(u64::MAX), *b"18446744073709551615");
+    }
+
+    #[test]
+    fn every_digit_counts_at_its_place() {
+        for place in 0..20 {
+            for digit in 1..=9 {
+                let text = format!("{digit}{}", "0".repeat(place));
+                assert_eq!(read(&text), expected(&padded(&text)), "{text}");
+            }
+        }
+    }
+
+    #[test]
+    fn any_byte_at_any_place_is_judged() {
+        for text in [
+            "",
+            "0",
+            "7",
+            "42",
+            "12345678",
+            "123456789",
+            "1234567890123456",
+            "12345678901234567",
+            "9999999999999999999",
+            "18446744073709551615",
+            "99999999999999999999",
+        ] {
+            for place in 0..20 {
+                for byte in 0..=u8::MAX {
+                    let mut field = padded(text);
+                    field[place] = byte;
+                    assert_eq!(super::read(&field), expected(&field), "{field:?}");
+                }
+            }
+        }
     }
 
     #[test]
     fn above_the_bound_is_7() {
         for text in [
             "18446744073709551616",
+            "18446744073709551620",
+            "18446744080000000000",
+            "18450000000000000000",
             "20000000000000000000",
+            "36893488147419103232",
             "99999999999999999999",
         ] {
             assert_eq!(read(text), Err(Refusal::Bound), "{text}");
@@ -80,13 +176,19 @@ mod tests {
     }
 
     #[test]
-    fn bad_forms_are_5_and_blank_has_no_digits() {
+    fn bad_forms_are_5_and_blank_is_6() {
         for text in [
             "00",
             "01",
+            "000000000",
+            "012345678",
+            "00000000000000001",
             "00000000000000000042",
             "1 ",
             "1 2",
+            "1        2",
+            "1                  2",
+            "9999999999999999999 ",
             "-1",
             "+1",
             "1a",
@@ -94,7 +196,7 @@ mod tests {
         ] {
             assert_eq!(read(text), Err(Refusal::Form), "{text:?}");
         }
-        assert_eq!(digits(&[b' '; 20]), Ok(&b""[..]));
+        assert_eq!(read(""), Err(Refusal::Blank));
         assert_eq!(read("0"), Ok(0));
     }
 }

@@ -116,35 +116,35 @@ fn read_payload(kind: u8, payload: &[u8]) -> Result<Packet<'_>, Refusal> {
         }
         b'A' => {
             let session = take(&mut rest)?;
-            let number = take(&mut rest)?;
+            let number = rest.first_chunk().ok_or(Refusal::Framing)?;
             text::padded_left(&session)?;
-            let digits = decimal::digits(&number)?;
-            text::not_blank(&session)?;
-            if matches!(digits, b"" | b"0") {
-                return Err(Refusal::Blank);
+            let next = decimal::read(number);
+            // a blank session is told after a number of bad form, but before one that is too great
+            if next != Err(Refusal::Form) {
+                text::not_blank(&session)?;
             }
-            Ok(Packet::Accepted {
-                session: Name(session),
-                next: Sequence(decimal::value(digits)?),
-            })
+            match next? {
+                0 => Err(Refusal::Blank),
+                next => Ok(Packet::Accepted {
+                    session: Name(session),
+                    next: Sequence(next),
+                }),
+            }
         }
         b'L' => {
             let user = take(&mut rest)?;
             let password = take(&mut rest)?;
             let session = take(&mut rest)?;
-            let number = take(&mut rest)?;
+            let number = rest.first_chunk().ok_or(Refusal::Framing)?;
             text::padded_right(&user)?;
             text::padded_right(&password)?;
             text::padded_left(&session)?;
-            let digits = decimal::digits(&number)?;
-            if digits.is_empty() {
-                return Err(Refusal::Blank);
-            }
+            let next = decimal::read(number)?;
             Ok(Packet::Login {
                 user: User(user),
                 password: Password(password),
                 session: Name(session),
-                next: Sequence(decimal::value(digits)?),
+                next: Sequence(next),
             })
         }
         _ => Err(Refusal::UnknownType),

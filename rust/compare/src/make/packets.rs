@@ -1,37 +1,8 @@
 //! Packets, lawful and damaged, and what is to be written as one.
 
-use super::{block, blocks, damage, few, length, near, number, text};
+use super::{block, blocks, damage, decimal, few, length, near, number, text};
 use crate::dice::Dice;
 use hinurapay::flat::hp_packet;
-
-/// A number as Soup writes it, at times with a leading zero, too great or not a number.
-fn soup_number(dice: &mut Dice) -> Vec<u8> {
-    let digits = match dice.below(10) {
-        0 => dice
-            .pick(&[
-                "",
-                "00",
-                "01",
-                "18446744073709551616",
-                "99999999999999999999",
-            ])
-            .to_string(),
-        1 => dice
-            .pick(&[
-                "18446744073709551615",
-                "18446744073709551614",
-                "10000000000000000000",
-                "18446744073709551620",
-            ])
-            .to_string(),
-        _ => number(dice).to_string(),
-    };
-    let mut field = format!("{digits:>20}").into_bytes();
-    if dice.one_in(10) {
-        field[dice.below(20)] = dice.pick(b" \n0129/:x");
-    }
-    field
-}
 
 /// The count that is laid down for so many blocks: mostly the right one.
 fn told(count: usize, dice: &mut Dice) -> u16 {
@@ -124,13 +95,13 @@ pub fn ufo_begun(body: usize, limit: usize, dice: &mut Dice) -> Vec<u8> {
 /// A Soup packet.
 pub fn soup(dice: &mut Dice) -> Vec<u8> {
     let mut packet = match dice.below(8) {
-        0 | 1 => [b"A", &text::<10>(true, dice)[..], &soup_number(dice)].concat(),
+        0 | 1 => [b"A", &text::<10>(true, dice)[..], &decimal(dice)].concat(),
         2 | 3 => [
             b"L",
             &text::<6>(false, dice)[..],
             &text::<10>(false, dice),
             &text::<10>(true, dice),
-            &soup_number(dice),
+            &decimal(dice),
         ]
         .concat(),
         4 => vec![b'J', dice.pick(b"ASASB\n")],
