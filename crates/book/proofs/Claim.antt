@@ -7,7 +7,7 @@ use Rattle.blocks.specs.Blocks.{frames, cut, cutFull}
 use Rattle.ufo.specs.Down.{readS, readE, read}
 use Rattle.ufo_up.specs.Up.{readT, readMessage, readEach, readUp}
 use Rattle.memx.specs.Read as memx
-use Rattle.memx.proofs.Specimen.{heartbeat-zero}
+use Rattle.memx.proofs.Specimen.{heartbeat-zero, one-skipped}
 use Rattle.soup.proofs.Specimen.{next-one, twenty-spaces}
 use Rattle.clock.proofs.Specimen as clock
 use Rattle.record.specs.Record.{hangs}
@@ -21,7 +21,7 @@ sampled : Says samples
 sampled = (clock.samples .0, clock.waits .0, (clock.samples .1, clock.waits .1, (clock.samples .2, clock.waits .2, tt)))
 
 pub all-hold : All book
-unfolding be bytesOf letterOrDigit blank textThenSpaces frames cut cutFull read readS readE readUp readEach readMessage readT memx.read memx.readNews hangs hear reporting taking standing
+unfolding be bytesOf letterOrDigit blank textThenSpaces frames cut cutFull read readS readE readUp readEach readMessage readT memx.read memx.readNews memx.readMessages hangs hear reporting taking standing
 all-hold =
     refl
     and refl
@@ -31,6 +31,7 @@ all-hold =
     and refl
     and refl
     and heartbeat-zero
+    and one-skipped
     and next-one
     and twenty-spaces
     and refl

@@ -8,7 +8,7 @@ use Rattle.wire.specs.Fields.{bytesOf}
 use Rattle.names.specs.Names.{nameOf}
 use Rattle.ufo.specs.Down.{messages, end}
 use Rattle.ufo_up.specs.Up.{request}
-use Rattle.memx.specs.Packet.{heartbeat}
+use Rattle.memx.specs.Packet as broadcast
 use Rattle.soup.specs.Packet.{accept}
 use Rattle.clock.specs.Milliseconds.{decimal, whole}
 use Rattle.clock.specs.declared.patience.Patience.{Patience}
@@ -64,6 +64,14 @@ tale =
     ∷ line (bytesOf 7 0x53_00000003_0000) (taken []) 6 5 complete
     ∷ []
 
+-- a MEMX session: nothing published, then two messages behind a longer header, then the end with a longer one
+abbrev headers : List Line
+headers =
+    line (bytesOf 18 0x00_12_0000000000000001_0000000000000000) (taken []) 1 0 ongoing
+    ∷ line (bytesOf 27 0x02_13_0000000000000001_0000000000000001_AB_0002_0002_4849_0000) (taken (hi ∷ [] ∷ [])) 3 2 ongoing
+    ∷ line (bytesOf 20 0x01_14_0000000000000001_0000000000000002_ABCD) (taken []) 3 2 complete
+    ∷ []
+
 -- sample, mean, spread and wait
 abbrev timings : List Timed
 timings =
@@ -84,12 +92,13 @@ book =
     ∷ down (bytesOf 10 0x53_FFFFFFFF_0001_0001_5A) (refused 7)
     ∷ down (bytesOf 7 0x53_FFFFFFFF_0000) (taken (messages (2 ^ 32 - 1) []))
     ∷ up (bytesOf 9 0x0007_54_00000003_0002) (taken (request 3 2 ∷ []))
-    ∷ memx (bytesOf 18 0x00_12_0000000000000001_0000000000000000) (taken (heartbeat 1 0))
+    ∷ memx (bytesOf 18 0x00_12_0000000000000001_0000000000000000) (taken (broadcast.heartbeat 1 0 []))
+    ∷ memx (bytesOf 25 0x02_13_0000000000000001_0000000000000006_AB_0001_0002_4849) (taken (broadcast.messages 1 6 (bytesOf 1 0xAB) (hi ∷ [])))
     ∷ soup (bytesOf 32 0x41_20202020202038383431_2020202020202020202020202020202020202031_0A) (taken (accept padded 1))
     ∷ soup (bytesOf 32 0x41_20202020202038383431_2020202020202020202020202020202020202020_0A) (refused 6)
     ∷ unheard s8841 ongoing
     ∷ story s8841 (line (bytesOf 5 0x45_00000000) (taken []) 1 0 complete ∷ [])
-    ∷ story (Memx (record { 0 = 1 })) (line (bytesOf 18 0x00_12_0000000000000001_0000000000000000) (taken []) 1 0 ongoing ∷ [])
+    ∷ story (Memx (record { 0 = 1 })) headers
     ∷ story s8841 tale
     ∷ samples
     ∷ []

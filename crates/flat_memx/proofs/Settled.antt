@@ -13,5 +13,5 @@ use Rattle.flat_memx.proofs.write.Reads as write-reads
 read-is : Answered 1 read.ps read.r read-reads.Post
 read-is κs a x y s t = same-answer
 
-write-is : Determined 2 write.ps write.r (List ℕ) (λ κs s. now (s .1 .1 .0)) write-reads.Post
+write-is : Determined 3 write.ps write.r (List ℕ) (λ κs s. now (s .1 .1 .1 .0)) write-reads.Post
 write-is κs a x y s t = same-flat-reply

@@ -1,20 +1,15 @@
 -- What is written of a MEMX-UDP packet's flat fields: the type says which of them are taken, and what the body is.
 -- Assumes nothing.
-use Prim.Native.Nat.{ℕ, _+_}
+use Prim.Native.Nat.{ℕ}
 use mathlib.Core.List.{List}
-use lib.ListN.{length}
 use Rattle.wire.specs.Checks.{if_then_else_, _is_}
-use Rattle.wire.specs.Datagram.{limit}
 use Rattle.wire.specs.Reply.{Reply}
-use Rattle.memx.specs.Packet.{heartbeat, shutdown, laid}
-use Rattle.memx_write.specs.Writing as memx
+use Rattle.memx.specs.Packet.{headed, laid}
+use Rattle.memx_write.specs.Writing.{sent}
 use Rattle.flat_packet.specs.declared.Packet.{Packet}
-use Rattle.flat_packet.specs.Fitting.{unfit, alone}
 
--- 0 1 2
-unfoldable pub memxReply : Packet → List ℕ → ℕ → Reply
-memxReply p body room =
-    if p .kind is 0 then alone limit 18 body (memx.reply (heartbeat (p .session) (p .number)) room) else
-    if p .kind is 1 then alone limit 18 body (memx.reply (shutdown (p .session) (p .number)) room) else
-    if p .kind is 2 then memx.sent (laid (p .session) (p .number) (p .count) body) room else
-    unfit limit (18 + length body) 3
+-- messages, or a header and whatever stands behind it: the reader knows no other type, and no body with a header alone
+unfoldable pub memxReply : Packet → (extra body : List ℕ) → ℕ → Reply
+memxReply p extra body room =
+    if p .kind is 2 then sent (laid (p .session) (p .number) (p .count) extra body) room else
+    sent (headed (p .kind) (p .session) (p .number) extra body) room

@@ -1,6 +1,7 @@
 // MEMX-UDP laid flat: a packet read, and one written from its fields.
 ghost use mathlib.Core.Path.{_≡_};
 ghost use lib.ListN.{length};
+ghost use Rattle.wire.specs.Checks.{if_then_else_, _atMost_};
 ghost use Rattle.wire.specs.Reply.{Settled};
 ghost use Rattle.flat.specs.Wrote.{FlatSettled};
 ghost use Rattle.flat_memx.specs.Reading.{flatMemx, memxRead};
@@ -24,22 +25,28 @@ fn flat_of(said: Memx, size: u64) -> Read
 {
     match said {
         Memx::Refused(n) => flat_packet::no_packet(n),
-        Memx::Heartbeat { session, highest } => {
-            flat_packet::numbered(layout::HEARTBEAT, session.0, highest.0)
-        }
-        Memx::Shutdown { session, highest } => {
-            flat_packet::numbered(layout::SHUTDOWN, session.0, highest.0)
-        }
+        Memx::Heartbeat {
+            session,
+            highest,
+            extra,
+        } => flat_packet::broadcast(layout::HEARTBEAT, session.0, highest.0, 0, extra, 0, 0),
+        Memx::Shutdown {
+            session,
+            highest,
+            extra,
+        } => flat_packet::broadcast(layout::SHUTDOWN, session.0, highest.0, 0, extra, 0, 0),
         Memx::Messages {
             session,
             first,
             count,
-        } => flat_packet::counted(
+            extra,
+        } => flat_packet::broadcast(
             layout::MESSAGES,
             session.0,
             first.0,
             count,
-            layout::BLOCKS as u64,
+            extra,
+            layout::BLOCKS as u64 + extra as u64,
             size,
         ),
     }
@@ -51,35 +58,43 @@ pub fn read(packet: &[u8]) -> Read
     flat_of(memx::reading::read(packet), packet.len() as u64)
 }
 
-fn written(fields: Packet, body: &[u8], out: &mut [u8]) -> Written
-    ensures { λ r. ⌜ Settled (memxReply fields (now (body .entry)) (length (now (out .entry)))) (now (out .entry)) r (now (out .exit)) ⌝ }
+// Why a heartbeat or shutdown can't have a body, if the packet is not over the limit.
+fn bodiless(extra: &[u8]) -> u8
+    ensures { λ r. ⌜ r ≡ (if length (now (extra .entry)) atMost 237 then 4 else 5) ⌝ }
+{
+    if layout::MOST_EXTRA < extra.len() {
+        return refusal::FORM;
+    }
+    refusal::FRAMING
+}
+
+fn written(fields: Packet, extra: &[u8], body: &[u8], out: &mut [u8]) -> Written
+    ensures { λ r. ⌜ Settled (memxReply fields (now (extra .entry)) (now (body .entry)) (length (now (out .entry)))) (now (out .entry)) r (now (out .exit)) ⌝ }
 {
     let kind = fields.kind;
-    let session = fields.session;
-    let number = fields.number;
+    let session = SessionId(fields.session);
+    let number = Sequence(fields.number);
     let count = fields.count;
-    match kind {
-        layout::HEARTBEAT => {
-            if body.len() != 0 {
-                return unfit(LIMIT, layout::HEADER, body, refusal::FRAMING);
-            }
-            memx_write::write_heartbeat(SessionId(session), Sequence(number), out)
-        }
-        layout::SHUTDOWN => {
-            if body.len() != 0 {
-                return unfit(LIMIT, layout::HEADER, body, refusal::FRAMING);
-            }
-            memx_write::write_shutdown(SessionId(session), Sequence(number), out)
-        }
-        layout::MESSAGES => {
-            memx_write::write_messages(SessionId(session), Sequence(number), count, body, out)
-        }
-        _ => unfit(LIMIT, layout::HEADER, body, refusal::UNKNOWN_TYPE),
+    let header = layout::HEADER + extra.len();
+    if kind == layout::MESSAGES {
+        return memx_write::write_messages(session, number, count, extra, body, out);
+    }
+    if layout::MESSAGES < kind {
+        return unfit(LIMIT, header, body, refusal::UNKNOWN_TYPE);
+    }
+    if body.len() != 0 {
+        return unfit(LIMIT, header, body, bodiless(extra));
+    }
+    if kind == layout::HEARTBEAT {
+        memx_write::write_heartbeat(session, number, extra, out)
+    } else {
+        memx_write::write_shutdown(session, number, extra, out)
     }
 }
 
-pub fn write(fields: Packet, body: &[u8], out: &mut [u8]) -> Wrote
-    ensures { λ r. ⌜ FlatSettled (memxReply fields (now (body .entry)) (length (now (out .entry)))) (now (out .entry)) r (now (out .exit)) ⌝ }
+// The header's extra bytes are given: fields.extra is not looked at.
+pub fn write(fields: Packet, extra: &[u8], body: &[u8], out: &mut [u8]) -> Wrote
+    ensures { λ r. ⌜ FlatSettled (memxReply fields (now (extra .entry)) (now (body .entry)) (length (now (out .entry)))) (now (out .entry)) r (now (out .exit)) ⌝ }
 {
-    wrote::wrote_of(written(fields, body, out))
+    wrote::wrote_of(written(fields, extra, body, out))
 }

@@ -21,7 +21,7 @@ use Rattle.names.specs.Names.{nameBytes, nameOf, userBytes, userOf}
 use Rattle.names.proofs.Packing.{name-written, user-written}
 use Rattle.flat_packet.specs.declared.Packet.{Packet}
 use Rattle.flat_packet.specs.declared.Read.{Read}
-use Rattle.flat_packet.specs.Packets.{nothing, noPacket, thePacket, counted}
+use Rattle.flat_packet.specs.Packets.{nothing, noPacket, thePacket, counted, broadcast}
 use Rattle.flat_packet.specs.Fitting.{unfit, alone}
 
 -- the body of a packet, by its place
@@ -32,13 +32,19 @@ bodyOf p d = take (p .length) (drop (p .start) d)
 pub body-behind : (start : ℕ) (d body : List ℕ) → length d ≡ start + length body → drop start d ≡ body → take (length d - start) (drop start d) ≡ body
 body-behind start d body l e = rw (l, e, add-sub-cancel-left start (length body)) (take-length body)
 
--- numbered messages, with their blocks from a place on to the end
+-- numbered messages, with their blocks from a place on to the end, behind a header with so many extra bytes or with none
+abbrev pub blocksBehind : (kind session number count extra start : ℕ) (body : List ℕ) → Read
+blocksBehind kind session number count extra start body =
+    thePacket (record { kind = kind; reason = 0; count = count; user = nothing .user; password = nothing .password; name = nothing .name; session = session; number = number; start = start; length = length body; next = 0; extra = extra })
+
 abbrev pub blocks : (kind session number count start : ℕ) (body : List ℕ) → Read
-blocks kind session number count start body =
-    thePacket (record { kind = kind; reason = 0; count = count; user = nothing .user; password = nothing .password; name = nothing .name; session = session; number = number; start = start; length = length body; next = 0 })
+blocks kind session number count start body = blocksBehind kind session number count 0 start body
+
+pub broadcast-blocks : (kind session number count extra start : ℕ) (body : List ℕ) → broadcast kind session number count extra start (start + length body) ≡ blocksBehind kind session number count extra start body
+broadcast-blocks kind session number count extra start body = rw (add-sub-cancel-left start (length body))
 
 pub counted-blocks : (kind session number count start : ℕ) (body : List ℕ) → counted kind session number count start (start + length body) ≡ blocks kind session number count start body
-counted-blocks kind session number count start body = rw (add-sub-cancel-left start (length body))
+counted-blocks kind session number count start body = broadcast-blocks kind session number count 0 start body
 
 -- n bytes, as text of that length is, padded on either side
 abbrev pub Text : ℕ → List ℕ → Type 0

@@ -17,6 +17,8 @@ use Rattle.flat_packet.proofs.numbered.Kinds as numbered
 use Rattle.flat_packet.proofs.numbered.Reads as numbered-reads
 use Rattle.flat_packet.proofs.counted.Kinds as counted
 use Rattle.flat_packet.proofs.counted.Reads as counted-reads
+use Rattle.flat_packet.proofs.broadcast.Kinds as broadcast
+use Rattle.flat_packet.proofs.broadcast.Reads as broadcast-reads
 use Rattle.flat_packet.proofs.requested.Kinds as requested
 use Rattle.flat_packet.proofs.requested.Reads as requested-reads
 use Rattle.flat_packet.proofs.fitting.unfit.Kinds as unfit
@@ -45,6 +47,9 @@ numbered-is κs a x y s t = same-answer
 
 counted-is : Answered 0 counted.ps counted.r counted-reads.Post
 counted-is κs a x y s t = same-answer
+
+broadcast-is : Answered 0 broadcast.ps broadcast.r broadcast-reads.Post
+broadcast-is κs a x y s t = same-answer
 
 requested-is : Answered 0 requested.ps requested.r requested-reads.Post
 requested-is κs a x y s t = same-answer

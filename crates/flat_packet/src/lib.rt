@@ -3,9 +3,9 @@ pub mod fitting;
 
 ghost use mathlib.Core.Path.{_≡_};
 ghost use Prim.Native.Nat.{_-_};
-ghost use Rattle.flat_packet.specs.Packets.{nothing, bare, named, rejected, payload, loggedIn, numbered, counted, requested, noPacket, thePacket};
+ghost use Rattle.flat_packet.specs.Packets.{nothing, bare, named, rejected, payload, loggedIn, numbered, counted, broadcast, requested, noPacket, thePacket};
 
-// kind: the type byte of the wire.
+// kind: the type byte of the wire. extra: in MEMX-UDP how many bytes the header has past its own fields.
 #[repr(C)]
 pub struct Packet {
     pub kind: u8,
@@ -19,6 +19,7 @@ pub struct Packet {
     pub start: u64,
     pub length: u64,
     pub next: u64,
+    pub extra: u8,
 }
 
 #[repr(C)]
@@ -42,6 +43,7 @@ fn nothing() -> Packet
         start: 0,
         length: 0,
         next: 0,
+        extra: 0,
     }
 }
 
@@ -120,6 +122,21 @@ pub fn numbered(kind: u8, session: u64, number: u64) -> Read
 pub fn counted(kind: u8, session: u64, number: u64, count: u16, start: u64, size: u64) -> Read
     ensures { λ r. ⌜ r ≡ counted kind session number count start size ⌝ }
 {
+    broadcast(kind, session, number, count, 0, start, size)
+}
+
+// The same in MEMX-UDP, whose header has so many extra bytes.
+pub fn broadcast(
+    kind: u8,
+    session: u64,
+    number: u64,
+    count: u16,
+    extra: u8,
+    start: u64,
+    size: u64,
+) -> Read
+    ensures { λ r. ⌜ r ≡ broadcast kind session number count extra start size ⌝ }
+{
     let length = past(start, size);
     let mut p = nothing();
     p.kind = kind;
@@ -128,6 +145,7 @@ pub fn counted(kind: u8, session: u64, number: u64, count: u16, start: u64, size
     p.count = count;
     p.start = start;
     p.length = length;
+    p.extra = extra;
     the_packet(p)
 }
 

@@ -34,7 +34,7 @@ Stand d p (end total) = Unit
 
 pub record Sound (s : Session) (d : List ℕ) (report : Report) : Type 0 where
   pub bound : topOf report ≤ highest s
-  pub stand : Stand d (blocksAt s) report
+  pub stand : Stand d (blocksAt s d) report
 
 standing : (d : List ℕ) (p first : ℕ) (ms : List (List ℕ)) → p ≤ length d → cut (length ms) (drop p d) ≡ whole ms → 1 ≤ first → first + length ms < 2 ^ 64 → Stand d p (messages first ms)
 standing d p first ms h c s b = (record { blocks = rw (le-leb p (length d) h, c); some = s; bound = b }, rw c)
@@ -61,15 +61,15 @@ module _ (d : List ℕ) (b : Bytes d) where
       rw (← same) (record { bound = ufoExact.read-is-written d b (ufo.end total) e .0; stand = tt })
 
   sound-memx : (id : SessionId) (p : memx.Packet) (report : Report) → memxRead.read d ≡ taken p → ofMemx (id .0) p ≡ taken report → Sound (Memx id) d report
-  sound-memx id (memx.heartbeat session number) report e f =
-      owns id session d (news number) report (record { bound = memxExact.read-is-written d b (memx.heartbeat session number) e .0 .bound; stand = tt }) f
-  sound-memx id (memx.shutdown session number) report e f =
-      owns id session d (end number) report (record { bound = memxExact.read-is-written d b (memx.shutdown session number) e .0 .bound; stand = tt }) f
-  sound-memx id (memx.messages session first ms) report e f =
-      let fit = memxExact.read-is-written d b (memx.messages session first ms) e .0 in
+  sound-memx id (memx.heartbeat session number extra) report e f =
+      owns id session d (news number) report (record { bound = memxExact.read-is-written d b (memx.heartbeat session number extra) e .0 .bound; stand = tt }) f
+  sound-memx id (memx.shutdown session number extra) report e f =
+      owns id session d (end number) report (record { bound = memxExact.read-is-written d b (memx.shutdown session number extra) e .0 .bound; stand = tt }) f
+  sound-memx id (memx.messages session first extra ms) report e f =
+      let fit = memxExact.read-is-written d b (memx.messages session first extra ms) e .0 in
       let some = fit .numbered in
       let most = fit .bound in
-      let stands = standing d memx.blocksAt first ms (carried-long d session first ms e) (carried-cut d session first ms e) some (omega arith) in
+      let stands = standing d (memxRead.blocksAt d) first ms (carried-long d session first extra ms e) (carried-cut d session first extra ms e) some (omega arith) in
       owns id session d (messages first ms) report (record { bound = omega arith; stand = stands }) f
 
   pub sound : (s : Session) (report : Report) → hear s d ≡ taken report → Sound s d report

@@ -1,3 +1,4 @@
 pub mod Hearing
 pub mod Order
 pub mod Own
+pub mod Skipped

@@ -1,7 +1,7 @@
 -- A datagram is heard in the scope's order: the reader's refusal stands; then 16, for what is not for the record; in MEMX style 11, for another session.
 -- Assumes nothing.
 use Prim.Native.Nat.{ℕ}
-use mathlib.Core.Path.{_≡_, refl}
+use mathlib.Core.Path.{_≡_}
 use mathlib.Core.List.{List}
 use borrow.Author.Tests.{ne-eqb}
 use Rattle.wire.specs.Checks.{refused, taken}
@@ -27,9 +27,9 @@ module _ (name : Name) (d : List ℕ) where
   then-reject-is-16 reason e = rw e
 
 abbrev pub sessionOf : memx.Packet → ℕ
-sessionOf (memx.heartbeat session highest) = session
-sessionOf (memx.shutdown session highest) = session
-sessionOf (memx.messages session first ms) = session
+sessionOf (memx.heartbeat session highest extra) = session
+sessionOf (memx.shutdown session highest extra) = session
+sessionOf (memx.messages session first extra ms) = session
 
 module _ (own : SessionId) (d : List ℕ) where
   pub memx-reader-first : (n : ℕ) → memxRead.read d ≡ refused n → hear (Memx own) d ≡ refused n
@@ -37,9 +37,9 @@ module _ (own : SessionId) (d : List ℕ) where
   memx-reader-first n e = rw e
 
   other : (p : memx.Packet) → ((sessionOf p ≡ own .0) → ⊥) → ofMemx (own .0) p ≡ refused 11
-  other (memx.heartbeat session highest) f = rw (ne-eqb session (own .0) f)
-  other (memx.shutdown session highest) f = rw (ne-eqb session (own .0) f)
-  other (memx.messages session first ms) f = rw (ne-eqb session (own .0) f)
+  other (memx.heartbeat session highest extra) f = rw (ne-eqb session (own .0) f)
+  other (memx.shutdown session highest extra) f = rw (ne-eqb session (own .0) f)
+  other (memx.messages session first extra ms) f = rw (ne-eqb session (own .0) f)
 
   pub then-another-session-is-11 : (p : memx.Packet) → memxRead.read d ≡ taken p → ((sessionOf p ≡ own .0) → ⊥) → hear (Memx own) d ≡ refused 11
   unfolding hear

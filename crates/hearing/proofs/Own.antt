@@ -44,9 +44,9 @@ heard-memx own d report e = let w = went (memxRead.read d) (ofMemx (own .0)) rep
   same session said f = eqb-true session (own .0) (all-passed ((session is own .0 else 11) ∷ []) (taken said) report f .0 .0)
 
   by : (p : memx.Packet) → ofMemx (own .0) p ≡ taken report → sessionOf p ≡ own .0
-  by (memx.heartbeat session highest) f = same session (news highest) f
-  by (memx.shutdown session highest) f = same session (end highest) f
-  by (memx.messages session first ms) f = same session (messages first ms) f
+  by (memx.heartbeat session highest extra) f = same session (news highest) f
+  by (memx.shutdown session highest extra) f = same session (end highest) f
+  by (memx.messages session first extra ms) f = same session (messages first ms) f
 
 -- a name opens a record exactly if it is lawful in `A`
 pub opens-as-in-A : (name : Name) → (opening name ≡ taken (fresh (Ufo name))) ↔ ufo.Fit (ufo.accept (nameBytes name) 1)

@@ -45,18 +45,18 @@ owned own session report = checked ((session is own else 11) ∷ []) (taken repo
 
 -- a shutdown is an end whose total is the highest number
 abbrev pub ofMemx : ℕ → memx.Packet → Verdict Report
-ofMemx own (memx.heartbeat session highest) = owned own session (news highest)
-ofMemx own (memx.shutdown session highest) = owned own session (end highest)
-ofMemx own (memx.messages session first ms) = owned own session (messages first ms)
+ofMemx own (memx.heartbeat session highest extra) = owned own session (news highest)
+ofMemx own (memx.shutdown session highest extra) = owned own session (end highest)
+ofMemx own (memx.messages session first extra ms) = owned own session (messages first ms)
 
 unfoldable pub hear : Session → List ℕ → Verdict Report
 hear (Ufo name) d = ufo.read d into ofUfo
 hear (Memx id) d = memxRead.read d into ofMemx (id .0)
 
--- where the blocks of messages begin
-abbrev pub blocksAt : Session → ℕ
-blocksAt (Ufo name) = 7
-blocksAt (Memx id) = memx.blocksAt
+-- where the blocks of messages begin: in MEMX style the datagram says it
+abbrev pub blocksAt : Session → List ℕ → ℕ
+blocksAt (Ufo name) d = 7
+blocksAt (Memx id) d = memxRead.blocksAt d
 
 -- the code's answer: of messages how many there are, and where their blocks begin
 abbrev pub heardOf : ℕ → Verdict Report → Heard

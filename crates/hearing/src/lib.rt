@@ -11,7 +11,6 @@ use wire::refusal;
 ghost use mathlib.Core.Path.{_≡_};
 ghost use Rattle.wire.specs.Checks.{if_then_else_, _is_, _into_};
 ghost use Rattle.ufo.specs.Down as ufo;
-ghost use Rattle.memx.specs.Packet as memx;
 ghost use Rattle.memx.specs.Read as memxRead;
 ghost use Rattle.hearing.specs.Hearing.{ofUfo, ofMemx, hear, blocksAt, heardOf};
 
@@ -65,31 +64,43 @@ fn owned(own: SessionId, session: SessionId, heard: Heard) -> Heard
 }
 
 fn hear_memx(own: SessionId, datagram: &[u8]) -> Heard
-    ensures { λ r. ⌜ r ≡ heardOf memx.blocksAt (memxRead.read (now (datagram .entry)) into ofMemx (own .0)) ⌝ }
+    ensures { λ r. ⌜ r ≡ heardOf (memxRead.blocksAt (now (datagram .entry))) (memxRead.read (now (datagram .entry)) into ofMemx (own .0)) ⌝ }
 {
     let packet = reading::read(datagram);
     match packet {
         Memx::Refused(number) => Heard::Refused(number),
-        Memx::Heartbeat { session, highest } => owned(own, session, Heard::News { highest }),
-        Memx::Shutdown { session, highest } => owned(own, session, Heard::End { total: highest }),
+        Memx::Heartbeat {
+            session,
+            highest,
+            extra: _,
+        } => owned(own, session, Heard::News { highest }),
+        Memx::Shutdown {
+            session,
+            highest,
+            extra: _,
+        } => owned(own, session, Heard::End { total: highest }),
         Memx::Messages {
             session,
             first,
             count,
-        } => owned(
-            own,
-            session,
-            Heard::Messages {
-                first,
-                count,
-                place: layout::BLOCKS,
-            },
-        ),
+            extra,
+        } => {
+            let place = layout::BLOCKS + extra as usize;
+            owned(
+                own,
+                session,
+                Heard::Messages {
+                    first,
+                    count,
+                    place,
+                },
+            )
+        }
     }
 }
 
 pub fn hear(session: Session, datagram: &[u8]) -> Heard
-    ensures { λ r. ⌜ r ≡ heardOf (blocksAt session) (hear session (now (datagram .entry))) ⌝ }
+    ensures { λ r. ⌜ r ≡ heardOf (blocksAt session (now (datagram .entry))) (hear session (now (datagram .entry))) ⌝ }
 {
     match session {
         Session::Ufo(_) => hear_ufo(datagram),

@@ -96,7 +96,7 @@ hp-ufo-write-message-is κs a x y s t = same-flat-reply
 hp-ufo-add-message-is : Determined 2 hp-ufo-add-message.ps hp-ufo-add-message.r (List ℕ) (λ κs s. now (s .1 .1 .0)) hp-ufo-add-message-reads.Post
 hp-ufo-add-message-is κs a x y s t = same-flat-reply
 
-hp-memx-write-is : Determined 2 hp-memx-write.ps hp-memx-write.r (List ℕ) (λ κs s. now (s .1 .1 .0)) hp-memx-write-reads.Post
+hp-memx-write-is : Determined 3 hp-memx-write.ps hp-memx-write.r (List ℕ) (λ κs s. now (s .1 .1 .1 .0)) hp-memx-write-reads.Post
 hp-memx-write-is κs a x y s t = same-flat-reply
 
 hp-tcp-write-is : Determined 2 hp-tcp-write.ps hp-tcp-write.r (List ℕ) (λ κs s. now (s .1 .1 .0)) hp-tcp-write-reads.Post

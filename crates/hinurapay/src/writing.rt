@@ -45,10 +45,10 @@ pub extern "C" fn hp_ufo_add_message(
 }
 
 #[no_mangle]
-pub extern "C" fn hp_memx_write(fields: Packet, body: &[u8], out: &mut [u8]) -> Wrote
-    ensures { λ r. ⌜ FlatSettled (memxReply fields (now (body .entry)) (length (now (out .entry)))) (now (out .entry)) r (now (out .exit)) ⌝ }
+pub extern "C" fn hp_memx_write(fields: Packet, extra: &[u8], body: &[u8], out: &mut [u8]) -> Wrote
+    ensures { λ r. ⌜ FlatSettled (memxReply fields (now (extra .entry)) (now (body .entry)) (length (now (out .entry)))) (now (out .entry)) r (now (out .exit)) ⌝ }
 {
-    flat_memx::write(fields, body, out)
+    flat_memx::write(fields, extra, body, out)
 }
 
 #[no_mangle]

@@ -1,17 +1,36 @@
--- Every type's checks stand in the order of their numbers: 1, 2, 3, 4, 8, 5, 6, 7.
+-- MEMX-UDP's checks stand in an order of its own: the header's length (5) is checked after it is there (4) and before any other length (4).
 -- Assumes nothing.
 use Prim.Native.Nat.{ℕ}
 use mathlib.Core.Path.{_≡_, refl}
-use mathlib.Core.List.{List, _∷_, _++_}
-use mathlib.Core.Bool.{Bool, true}
-use Rattle.wire.specs.Checks.{_else_, ordered}
+use mathlib.Core.Bool.{false}
+use mathlib.Core.List.{List, [], _∷_, _++_}
+use Rattle.wire.specs.Checks.{_is_, taken, Check, checked, ordered}
 use Rattle.wire.specs.Datagram.{opening}
-use Rattle.memx.specs.Read.{newsChecks, messagesChecks}
+use Rattle.blocks.specs.Blocks.{messagesOf}
+use Rattle.memx.specs.Packet.{messages}
+use Rattle.memx.specs.Read.{kindIn, sessionIn, numberIn, extraIn, blocksIn, headerChecks, newsChecks, messagesChecks, news, readNews, readMessages, read}
 
--- d is the packet, and `known` says whether its type is one of the three
-module _ (d : List ℕ) (known : Bool) where
-  pub ordered-news : ordered (opening d ++ (known else 3) ∷ newsChecks d) ≡ true
-  ordered-news = refl
+-- all that is checked of a packet, in one list
+module _ (d : List ℕ) where
+  pub checked-as-messages : kindIn d ≡ 2 → read d ≡ checked (opening d ++ headerChecks d ++ messagesChecks d) (taken (messages (sessionIn d) (numberIn d) (extraIn d) (messagesOf (blocksIn d))))
+  unfolding read readMessages
+  checked-as-messages k = rw k
 
-  pub ordered-messages : ordered (opening d ++ (known else 3) ∷ messagesChecks d) ≡ true
-  ordered-messages = refl
+  pub checked-as-news : (kindIn d is 2) ≡ false → read d ≡ checked (opening d ++ headerChecks d ++ newsChecks d) (taken (news (kindIn d) (sessionIn d) (numberIn d) (extraIn d)))
+  unfolding read readNews
+  checked-as-news k = rw k
+
+-- the numbers of some checks, one after the other
+abbrev numbers : List Check → List ℕ
+numbers [] = []
+numbers (c ∷ cs) = c .number ∷ numbers cs
+
+module _ (d : List ℕ) where
+  pub order-news : numbers (opening d ++ headerChecks d ++ newsChecks d) ≡ 1 ∷ 2 ∷ 3 ∷ 4 ∷ 5 ∷ 5 ∷ 4 ∷ 7 ∷ []
+  order-news = refl
+
+  pub order-messages : numbers (opening d ++ headerChecks d ++ messagesChecks d) ≡ 1 ∷ 2 ∷ 3 ∷ 4 ∷ 5 ∷ 5 ∷ 4 ∷ 4 ∷ 6 ∷ 6 ∷ 7 ∷ []
+  order-messages = refl
+
+  pub not-the-readers-order : (ordered (opening d ++ headerChecks d ++ newsChecks d) ≡ false) × (ordered (opening d ++ headerChecks d ++ messagesChecks d) ≡ false)
+  not-the-readers-order = (refl, refl)

@@ -29,7 +29,7 @@ example = 2 ∷ 18 ∷ eight 1 ++ eight 6 ++ 0 ∷ 2 ∷ 0 ∷ 19 ∷ fox ++ 0 �
 pub example-length : length example ≡ 67
 example-length = refl
 
-pub example-read : read example ≡ taken (messages 1 6 (fox ∷ dog ∷ []))
+pub example-read : read example ≡ taken (messages 1 6 [] (fox ∷ dog ∷ []))
 unfolding read readMessages be cut
 example-read = refl
 
@@ -37,10 +37,19 @@ pub one-byte-more : read (example ++ 0 ∷ []) ≡ refused 4
 unfolding read readMessages be cut
 one-byte-more = refl
 
-pub heartbeat-zero : read (0 ∷ 18 ∷ eight 1 ++ eight 0) ≡ taken (heartbeat 1 0)
+pub heartbeat-zero : read (0 ∷ 18 ∷ eight 1 ++ eight 0) ≡ taken (heartbeat 1 0 [])
 unfolding read readNews be
 heartbeat-zero = refl
 
 pub header-short : read (0 ∷ 17 ∷ eight 1 ++ eight 0) ≡ refused 5
 unfolding read readNews be
 header-short = refl
+
+-- a header of 19 bytes: the last is skipped, and the count follows it
+pub one-skipped : read (2 ∷ 19 ∷ eight 1 ++ eight 6 ++ 171 ∷ 0 ∷ 1 ∷ 0 ∷ 2 ∷ 72 ∷ 73 ∷ []) ≡ taken (messages 1 6 (171 ∷ []) ((72 ∷ 73 ∷ []) ∷ []))
+unfolding read readMessages be cut
+one-skipped = refl
+
+pub header-past-the-end : read (0 ∷ 19 ∷ eight 1 ++ eight 0) ≡ refused 4
+unfolding read readNews be
+header-past-the-end = refl

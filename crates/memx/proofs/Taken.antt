@@ -1,27 +1,44 @@
--- What is taken passed the checks of its type.
+-- What is taken passed the checks that all types share, and those of its type.
 -- Assumes nothing.
 use Prim.Native.Nat.{ℕ, _≤_}
-use mathlib.Core.Path.{_≡_, refl}
-use mathlib.Core.List.{List}
+use mathlib.Core.Path.{_≡_}
+use mathlib.Core.List.{List, _++_}
 use native.Mathlib.Omega.{arith}
-use borrow.Author.Tests.{leb-true}
+use borrow.Author.Tests.{leb-true, eqb-true, eqb-false}
 use lib.ListN.{length}
-use Rattle.wire.specs.Checks.{refused, taken, Passed}
+use Rattle.wire.specs.Checks.{_is_, taken, Passed}
 use Rattle.wire.specs.Datagram.{limit, opening}
-use Rattle.wire.proofs.Checks.{not-both, all-passed, came-by}
+use Rattle.wire.proofs.Checks.{all-passed, chosen, taken-same}
 use Rattle.blocks.specs.Blocks.{messagesOf}
-use Rattle.memx.specs.Packet.{Packet, messages}
-use Rattle.memx.specs.Read.{kindIn, sessionIn, numberIn, blocksIn, newsChecks, messagesChecks, news, readNews, readMessages, read}
+use Rattle.memx.specs.Packet.{Packet, messages, headerSize}
+use Rattle.memx.specs.Read.{kindIn, headerIn, sessionIn, numberIn, extraIn, blocksIn, headerChecks, newsChecks, messagesChecks, news, readNews, readMessages, read}
 
 module _ (d : List ℕ) (p : Packet) where
-  pub data Took : Type 0 where
-    as-news : (kind : ℕ) → kind ≤ 1 → kindIn d ≡ kind → Passed (newsChecks d) → news kind (sessionIn d) (numberIn d) ≡ p → Took
-    as-messages : kindIn d ≡ 2 → Passed (messagesChecks d) → messages (sessionIn d) (numberIn d) (messagesOf (blocksIn d)) ≡ p → Took
+  pub data ByType : Type 0 where
+    as-news : kindIn d ≤ 1 → Passed (newsChecks d) → news (kindIn d) (sessionIn d) (numberIn d) (extraIn d) ≡ p → ByType
+    as-messages : kindIn d ≡ 2 → Passed (messagesChecks d) → messages (sessionIn d) (numberIn d) (extraIn d) (messagesOf (blocksIn d)) ≡ p → ByType
 
-  pub took : read d ≡ taken p → (length d ≤ limit) × Took
+  pub record Took : Type 0 where
+    pub size : length d ≤ limit
+    pub header : headerSize ≤ headerIn d
+    pub byte : headerIn d ≤ 255
+    pub by-type : ByType
+
+  pub took : read d ≡ taken p → Took
   unfolding read readNews readMessages
   took e =
       let k = kindIn d in
-      let r = all-passed (opening d) _ p e in
-      let other = not-both (refused 3) 3 p refl in
-      (leb-true (length d) limit (r .0 .1 .0), came-by k 0 (newsChecks d) _ p _ (as-news 0 (omega arith)) (came-by k 1 (newsChecks d) _ p _ (as-news 1 (omega arith)) (came-by k 2 (messagesChecks d) _ p _ as-messages other)) (r .1))
+      let r = all-passed (opening d ++ headerChecks d) _ p e in
+      let known : k ≤ 2 = leb-true k 2 (r .0 .1 .1 .0) in
+      let m = taken (messages (sessionIn d) (numberIn d) (extraIn d) (messagesOf (blocksIn d))) in
+      let n = taken (news k (sessionIn d) (numberIn d) (extraIn d)) in
+      record {
+        size = leb-true (length d) limit (r .0 .1 .0);
+        header = leb-true headerSize (headerIn d) (r .0 .1 .1 .1 .1 .0);
+        byte = leb-true (headerIn d) 255 (r .0 .1 .1 .1 .1 .1 .0);
+        by-type =
+            chosen (k is 2) (readMessages d) (readNews k d) (taken p)
+            (λ q f. let c = all-passed (messagesChecks d) m p f in as-messages (eqb-true k 2 q) (c .0) (taken-same _ p (c .1)))
+            (λ q f. let c = all-passed (newsChecks d) n p f in let other = eqb-false k 2 q in as-news (omega arith) (c .0) (taken-same _ p (c .1)))
+            (r .1);
+      }

@@ -1,51 +1,69 @@
 -- What the reader says to a packet as it is laid out, by its fields.
 -- Assumes nothing.
-use Prim.Native.Nat.{ℕ, zero, suc, _+_, _-_, _^_, _≤_, _<_}
-use mathlib.Core.Path.{_≡_}
+use Prim.Native.Nat.{ℕ, _+_, _-_, _^_, _<_}
+use mathlib.Core.Path.{_≡_, sym, _∙_}
 use mathlib.Core.List.{List, [], _∷_, _++_}
-use mathlib.Core.Bool.{not}
+use mathlib.Core.Bool.{false, not}
 use native.Mathlib.Omega.{arith}
-use borrow.Author.Tests.{le-leb, ne-eqb}
-use lib.ListN.{length}
+use borrow.Author.Tests.{le-leb, eq-eqb, ne-eqb, eqb-true, eqb-false}
+use lib.ListN.{length, length-append}
 use Rattle.wire.specs.Fields.{bytesOf}
-use Rattle.wire.specs.Checks.{_is_, _atMost_, taken, Check, _else_, checked}
-use Rattle.wire.specs.Datagram.{limit, opening}
+use Rattle.wire.specs.Checks.{if_then_else_, _is_, _atMost_, taken, Check, _else_, checked}
+use Rattle.wire.specs.Datagram.{limit}
+use Rattle.wire.proofs.Tests.{by-test}
+use Rattle.wire.proofs.Width.{length-bytesOf}
 use Rattle.blocks.specs.Blocks.{cut, isWhole, messagesOf}
-use Rattle.memx.specs.Packet.{messages, blocksAt, headed, laid}
-use Rattle.memx.specs.Read.{kindIn, news, readNews, readMessages, read}
-use Rattle.memx.proofs.Header.{length-headed, kind-headed, header-headed, session-headed, number-headed, length-laid, count-laid, blocks-laid}
+use Rattle.memx.specs.Packet.{messages, headerSize, headed, laid}
+use Rattle.memx.specs.Read.{blocksAt, news, readNews, readMessages, read}
+use Rattle.memx.proofs.Header.{length-headed, kind-headed, header-headed, session-headed, number-headed, extra-headed, length-laid, count-laid, blocks-laid}
 
--- what holds of type 0 and of type 1
-pub of-two : (P : ℕ → Type 0) → P 0 → P 1 → (kind : ℕ) → kind ≤ 1 → P kind
-of-two P p q zero h = p
-of-two P p q (suc zero) h = q
-of-two P p q (suc (suc n)) h = absurd (omega arith)
+-- what is left to check of a header before so many bytes
+abbrev pub headedChecks : (kind : ℕ) (extra : List ℕ) (size : ℕ) → List Check
+headedChecks kind extra size =
+    (headerSize + length extra + size atMost limit else 2)
+    ∷ (kind atMost 2 else 3)
+    ∷ (headerSize + length extra atMost 255 else 5)
+    ∷ []
 
--- types 0 and 1 go one way
-reads-news : (kind : ℕ) (d : List ℕ) → kind ≤ 1 → kindIn d ≡ kind → read d ≡ checked (opening d) (readNews kind d)
-unfolding read
-reads-news kind d h k =
-    of-two (λ n. kindIn d ≡ n → read d ≡ checked (opening d) (readNews n d)) (λ e. rw e) (λ e. rw e) kind h k
+-- of a heartbeat or shutdown before so many bytes
+abbrev pub restChecks : (highest size : ℕ) → List Check
+restChecks highest size = (size is 0 else 4) ∷ (highest atMost 2 ^ 64 - 2 else 7) ∷ []
 
-module _ (kind session highest : ℕ) (k : kind ≤ 1) (s : session < 2 ^ 64) (h : highest < 2 ^ 64) where
-  pub news-verdict : read (headed kind session highest []) ≡ checked ((highest atMost 2 ^ 64 - 2 else 7) ∷ []) (taken (news kind session highest))
-  unfolding readNews
-  news-verdict =
-      rw (reads-news kind (headed kind session highest []) k (kind-headed kind session highest []), length-headed, header-headed, session-headed kind session highest [] s, number-headed kind session highest [] h)
-
--- what is left to check of messages that are laid out
-abbrev pub laidChecks : (first count : ℕ) → List ℕ → List Check
-laidChecks first count blocks =
-    (blocksAt + length blocks atMost limit else 2)
-    ∷ (isWhole (cut count blocks) else 4)
+-- and of blocks of messages
+abbrev pub blocksChecks : (first count : ℕ) → List ℕ → List Check
+blocksChecks first count blocks =
+    (isWhole (cut count blocks) else 4)
     ∷ (not (first is 0) else 6)
     ∷ (not (count is 0) else 6)
     ∷ (first + count atMost 2 ^ 64 - 1 else 7)
     ∷ []
 
-module _ (session first count : ℕ) (blocks : List ℕ) (s : session < 2 ^ 64) (f : first < 2 ^ 64) (c : count < 2 ^ 16) where
-  pub laid-verdict : read (laid session first count blocks) ≡ checked (laidChecks first count blocks) (taken (messages session first (messagesOf (cut count blocks))))
-  unfolding read readMessages
+-- a sum is its first part exactly if the second is 0
+same-size : (a n : ℕ) → (a + n is a) ≡ (n is 0)
+same-size a n =
+    by-test (n is 0)
+    (λ e. let z = eqb-true n 0 e in eq-eqb (a + n) a (omega arith) ∙ sym e)
+    (λ e. let z = eqb-false n 0 e in ne-eqb (a + n) a (λ q. z (omega arith)) ∙ sym e)
+
+module _ (kind session number : ℕ) (extra follows : List ℕ) where
+  pub headed-verdict : let d = headed kind session number extra follows in read d ≡ checked (headedChecks kind extra (length follows)) (if kind is 2 then readMessages d else readNews kind d)
+  unfolding read
+  headed-verdict =
+      let n = headerSize + length extra + length follows in
+      rw (length-headed, kind-headed, header-headed, ne-eqb n 0 (λ e. omega arith), le-leb headerSize n (omega arith), le-leb headerSize (headerSize + length extra) (omega arith))
+
+  pub news-verdict : session < 2 ^ 64 → number < 2 ^ 64 → (kind is 2) ≡ false → read (headed kind session number extra follows) ≡ checked (headedChecks kind extra (length follows) ++ restChecks number (length follows)) (taken (news kind session number extra))
+  unfolding readNews
+  news-verdict s h k =
+      rw (headed-verdict, k, extra-headed, length-headed, header-headed, session-headed kind session number extra follows s, number-headed kind session number extra follows h, same-size (headerSize + length extra) (length follows))
+
+module _ (session first count : ℕ) (extra blocks : List ℕ) (s : session < 2 ^ 64) (f : first < 2 ^ 64) (c : count < 2 ^ 16) where
+  pub laid-verdict : read (laid session first count extra blocks) ≡ checked (headedChecks 2 extra (2 + length blocks) ++ blocksChecks first count blocks) (taken (messages session first extra (messagesOf (cut count blocks))))
+  unfolding readMessages
   laid-verdict =
       let follows = bytesOf 2 count ++ blocks in
-      rw (kind-headed, header-headed, session-headed 2 session first follows s, number-headed 2 session first follows f, count-laid session first count blocks c, blocks-laid, length-laid, ne-eqb (blocksAt + length blocks) 0 (λ e. omega arith), le-leb blocksAt (blocksAt + length blocks) (omega arith))
+      let d = headed 2 session first extra follows in
+      let size : length follows ≡ 2 + length blocks = rw (length-append, length-bytesOf) in
+      let l = length-laid session first count extra blocks in
+      let h = header-headed 2 session first extra follows in
+      rw (headed-verdict 2 session first extra follows, size, extra-headed, session-headed 2 session first extra follows s, number-headed 2 session first extra follows f, count-laid session first count extra blocks c, blocks-laid, le-leb (blocksAt d) (length d) (omega arith))

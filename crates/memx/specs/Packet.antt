@@ -7,48 +7,51 @@ use Rattle.wire.specs.Fields.{bytesOf, Bytes}
 use Rattle.wire.specs.Datagram.{limit}
 use Rattle.blocks.specs.Blocks.{frames, Each}
 
--- the highest number published, 0 if none; or messages, numbered from the first on
+-- the highest number published, 0 if none; or messages, numbered from the first on. `extra` are the header's bytes past its own fields
 pub data Packet : Type 0 where
-  heartbeat : (session highest : ℕ) → Packet
-  shutdown : (session highest : ℕ) → Packet
-  messages : (session first : ℕ) (ms : List (List ℕ)) → Packet
+  heartbeat : (session highest : ℕ) (extra : List ℕ) → Packet
+  shutdown : (session highest : ℕ) (extra : List ℕ) → Packet
+  messages : (session first : ℕ) (extra : List ℕ) (ms : List (List ℕ)) → Packet
 
--- the bytes of the header, which is also what it says of itself
+-- the bytes of the header's own fields
 abbrev pub headerSize : ℕ
 headerSize = 18
 
--- where the blocks of messages begin: after the header and their count
-abbrev pub blocksAt : ℕ
-blocksAt = headerSize + 2
-
--- the header, and what follows it
-unfoldable pub headed : (kind session number : ℕ) → List ℕ → List ℕ
-headed kind session number follows =
-    kind ∷ headerSize ∷ (bytesOf 8 session ++ (bytesOf 8 number ++ follows))
+-- the header, which says how long it is, and what follows it
+unfoldable pub headed : (kind session number : ℕ) (extra follows : List ℕ) → List ℕ
+headed kind session number extra follows =
+    kind ∷ (headerSize + length extra) ∷ (bytesOf 8 session ++ (bytesOf 8 number ++ (extra ++ follows)))
 
 -- messages that stand as blocks already
-abbrev pub laid : (session first count : ℕ) → List ℕ → List ℕ
-laid session first count blocks = headed 2 session first (bytesOf 2 count ++ blocks)
+abbrev pub laid : (session first count : ℕ) (extra blocks : List ℕ) → List ℕ
+laid session first count extra blocks = headed 2 session first extra (bytesOf 2 count ++ blocks)
 
 unfoldable pub write : Packet → List ℕ
-write (heartbeat session highest) = headed 0 session highest []
-write (shutdown session highest) = headed 1 session highest []
-write (messages session first ms) = laid session first (length ms) (frames ms)
+write (heartbeat session highest extra) = headed 0 session highest extra []
+write (shutdown session highest extra) = headed 1 session highest extra []
+write (messages session first extra ms) = laid session first (length ms) extra (frames ms)
+
+-- a header's length is one byte, which leaves at most 237 for the extra ones
+pub record FitExtra (extra : List ℕ) : Type 0 where
+  pub few : length extra ≤ 237
+  pub bytes : Bytes extra
 
 -- the lawful packets: a heartbeat or shutdown, and messages
-pub record FitNews (s h : ℕ) : Type 0 where
+pub record FitNews (s h : ℕ) (x : List ℕ) : Type 0 where
   pub session : s < 2 ^ 64
   pub bound : h ≤ 2 ^ 64 - 2
+  pub extra : FitExtra x
 
-pub record FitMessages (s f : ℕ) (ms : List (List ℕ)) : Type 0 where
+pub record FitMessages (s f : ℕ) (x : List ℕ) (ms : List (List ℕ)) : Type 0 where
   pub session : s < 2 ^ 64
   pub numbered : 1 ≤ f
   pub some : 1 ≤ length ms
   pub bound : f + length ms ≤ 2 ^ 64 - 1
+  pub extra : FitExtra x
   pub bytes : Each Bytes ms
-  pub size : length (write (messages s f ms)) ≤ limit
+  pub size : length (write (messages s f x ms)) ≤ limit
 
 abbrev pub Fit : Packet → Type 0
-Fit (heartbeat session highest) = FitNews session highest
-Fit (shutdown session highest) = FitNews session highest
-Fit (messages session first ms) = FitMessages session first ms
+Fit (heartbeat session highest extra) = FitNews session highest extra
+Fit (shutdown session highest extra) = FitNews session highest extra
+Fit (messages session first extra ms) = FitMessages session first extra ms

@@ -1,12 +1,14 @@
 // A packet's layout: its sizes, its places and its types.
 
-// The bytes of the header, which is also what it says of itself. The count of messages stands after it.
+// The bytes of the header's own fields: the least that it says of its length. Extra bytes stand behind them.
 pub const HEADER: usize = 18;
+// The most extra bytes: the header's length is one byte.
+pub const MOST_EXTRA: usize = 237;
 // Where the session begins.
 pub const SESSION: usize = 2;
 // Where the number begins.
 pub const NUMBER: usize = 10;
-// Where the blocks of messages begin.
+// Where the blocks of messages begin, after the header and their count, if the header has no extra bytes.
 pub const BLOCKS: usize = 20;
 // A message's number stays below this one.
 pub const CEILING: u64 = 18446744073709551615;

@@ -11,11 +11,11 @@ use Rattle.memx_write.proofs.write_shutdown.Reads as write-shutdown-rea
 use Rattle.memx_write.proofs.write_messages.Kinds as write-messages
 use Rattle.memx_write.proofs.write_messages.Reads as write-messages-reads
 
-write-heartbeat-is : Determined 1 write-heartbeat.ps write-heartbeat.r (List ℕ) (λ κs s. now (s .1 .1 .0)) write-heartbeat-reads.Post
+write-heartbeat-is : Determined 2 write-heartbeat.ps write-heartbeat.r (List ℕ) (λ κs s. now (s .1 .1 .1 .0)) write-heartbeat-reads.Post
 write-heartbeat-is κs a x y s t = same-reply
 
-write-shutdown-is : Determined 1 write-shutdown.ps write-shutdown.r (List ℕ) (λ κs s. now (s .1 .1 .0)) write-shutdown-reads.Post
+write-shutdown-is : Determined 2 write-shutdown.ps write-shutdown.r (List ℕ) (λ κs s. now (s .1 .1 .1 .0)) write-shutdown-reads.Post
 write-shutdown-is κs a x y s t = same-reply
 
-write-messages-is : Determined 2 write-messages.ps write-messages.r (List ℕ) (λ κs s. now (s .1 .1 .1 .1 .0)) write-messages-reads.Post
+write-messages-is : Determined 3 write-messages.ps write-messages.r (List ℕ) (λ κs s. now (s .1 .1 .1 .1 .1 .0)) write-messages-reads.Post
 write-messages-is κs a x y s t = same-reply

@@ -5,6 +5,12 @@ use crate::hex;
 use crate::numbers;
 use bytes::scan;
 
+// How many bytes a piece of a text puts, and where the text goes on.
+struct Piece {
+    count: usize,
+    next: usize,
+}
+
 fn fill(out: &mut [u8], b: u8, from: usize, to: usize)
     requires { ⌜ to ≤ length (now out) ⌝ }
 {
@@ -32,23 +38,47 @@ fn repeat(out: &mut [u8], place: usize, times: usize) -> usize {
     last + times
 }
 
-// Puts what a text spells at the start of out, and answers how many bytes there are. `5A*1463` is the byte 5A, 1,463 times.
-pub(crate) fn bytes(text: &[u8], out: &mut [u8]) -> usize {
+// Puts what a text spells up to the end of its first run. `5A*1463` is a run: the byte 5A, 1,463 times.
+fn first_run(text: &[u8], out: &mut [u8]) -> Piece {
     let star = scan::find(text, 0, text.len(), b'*');
     let front = hex::decode(&text[0..star], out);
     if star == text.len() {
-        return front;
+        return Piece {
+            count: front,
+            next: star,
+        };
     }
     let back = &text[star..];
-    let full = repeat(out, front, numbers::whole(back, 0) as usize);
-    let rest = numbers::behind(back);
-    if rest <= back.len() {
-        if full <= out.len() {
-            let more = hex::decode(&back[rest..], &mut out[full..]);
-            return std::num::wrapping_add_usize(full, more);
-        }
+    let count = repeat(out, front, numbers::whole(back, 0) as usize);
+    Piece {
+        count,
+        next: std::num::wrapping_add_usize(star, numbers::behind(back)),
     }
-    0
+}
+
+// Puts the next piece of a text behind what it has put already.
+fn next_run(text: &[u8], put: Piece, out: &mut [u8]) -> Piece {
+    let next = put.next;
+    let count = put.count;
+    if text.len() < next {
+        return put;
+    }
+    if out.len() < count {
+        return put;
+    }
+    let p = first_run(&text[next..], &mut out[count..]);
+    Piece {
+        count: std::num::wrapping_add_usize(count, p.count),
+        next: std::num::wrapping_add_usize(next, p.next),
+    }
+}
+
+// Puts what a text spells, with two runs at most, at the start of out, and answers how many bytes there are.
+pub(crate) fn bytes(text: &[u8], out: &mut [u8]) -> usize {
+    let first = first_run(text, out);
+    let second = next_run(text, first, out);
+    let all = next_run(text, second, out);
+    all.count
 }
 
 // The number behind `>`, or another one where there is none.

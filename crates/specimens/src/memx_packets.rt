@@ -5,10 +5,16 @@ use memx::reading;
 use memx::reading::Memx;
 use wire::kinds::SessionId;
 
-// Session 1 goes without saying.
-fn session(id: SessionId) {
-    if id.0 != 1 {
-        page::number(b", session ", id.0);
+// What else a header says. Session 1 goes without saying, and so do extra bytes where there are none.
+fn header(d: &[u8], session: SessionId, extra: u8) {
+    if session.0 != 1 {
+        page::number(b", session ", session.0);
+    }
+    if extra != 0 {
+        let end = layout::HEADER + extra as usize;
+        if end <= d.len() {
+            page::raw(b", extra", &d[layout::HEADER..end]);
+        }
     }
 }
 
@@ -16,26 +22,29 @@ pub(crate) fn memx(d: &[u8]) {
     match reading::read(d) {
         Memx::Refused(n) => page::refused(n),
         Memx::Heartbeat {
-            session: id,
+            session,
             highest,
+            extra,
         } => {
             page::number(b"\n= heartbeat, highest ", highest.0);
-            session(id);
+            header(d, session, extra);
         }
         Memx::Shutdown {
-            session: id,
+            session,
             highest,
+            extra,
         } => {
             page::number(b"\n= shutdown, highest ", highest.0);
-            session(id);
+            header(d, session, extra);
         }
         Memx::Messages {
-            session: id,
+            session,
             first,
             count,
+            extra,
         } => {
-            page::packet(d, layout::BLOCKS, first, count);
-            session(id);
+            page::packet(d, layout::BLOCKS + extra as usize, first, count);
+            header(d, session, extra);
         }
     }
 }

@@ -67,6 +67,17 @@ pub(crate) fn text(label: &[u8], said: &[u8]) {
     words(b"\"");
 }
 
+// Bytes that are no text are told in hexadecimal, unless there are too many.
+pub(crate) fn raw(label: &[u8], said: &[u8]) {
+    if LONGEST_TEXT < said.len() {
+        text(label, said);
+        return;
+    }
+    words(label);
+    words(b" ");
+    hex(said);
+}
+
 // A text that stands at a place of a packet.
 pub(crate) fn part(label: &[u8], s: &[u8], start: usize, length: usize) {
     if start <= s.len() {

@@ -58,22 +58,42 @@ fn up(d: &[u8], n: usize, out: &mut [u8]) -> Written {
     }
 }
 
+// A MEMX packet with extra bytes. The count stands at a place of the line, and the blocks behind it.
+fn broadcast(d: &[u8], n: usize, extra: &[u8], place: usize, out: &mut [u8]) -> Written
+    requires { ⌜ (48 ≤ length (now d)) × (place + 2 ≤ length (now d)) ⌝ }
+{
+    let session = SessionId(fields::get8(d, 1));
+    match d[0] {
+        0 => memx_write::write_heartbeat(session, number(d, 9), extra, out),
+        1 => memx_write::write_shutdown(session, number(d, 9), extra, out),
+        _ => memx_write::write_messages(
+            session,
+            number(d, 9),
+            fields::get2(d, place),
+            extra,
+            rest(d, place + 2, n),
+            out,
+        ),
+    }
+}
+
 fn memx(d: &[u8], n: usize, out: &mut [u8]) -> Written {
     if d.len() < FIELDS {
         return Written::Refused(0);
     }
-    let session = SessionId(fields::get8(d, 1));
-    match d[0] {
-        0 => memx_write::write_heartbeat(session, number(d, 9), out),
-        1 => memx_write::write_shutdown(session, number(d, 9), out),
-        _ => memx_write::write_messages(
-            session,
-            number(d, 9),
-            fields::get2(d, 17),
-            rest(d, 19, n),
-            out,
-        ),
+    broadcast(d, n, b"", 17, out)
+}
+
+// Behind the number stands how many extra bytes there are, in two bytes, and then those.
+fn headed(d: &[u8], n: usize, out: &mut [u8]) -> Written {
+    if d.len() < FIELDS {
+        return Written::Refused(0);
     }
+    let place = 19 + fields::get2(d, 17) as usize;
+    if d.len() - 2 < place {
+        return Written::Refused(0);
+    }
+    broadcast(d, n, &d[19..place], place, out)
 }
 
 fn soup(d: &[u8], n: usize, out: &mut [u8]) -> Written {
@@ -149,6 +169,7 @@ fn packet(letter: u8, d: &[u8], n: usize, out: &mut [u8]) -> Written {
         b'd' => down(d, n, out),
         b'u' => up(d, n, out),
         b'm' => memx(d, n, out),
+        b'h' => headed(d, n, out),
         b't' => tcp(d, n, out),
         _ => soup(d, n, out),
     }

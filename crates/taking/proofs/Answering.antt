@@ -41,16 +41,16 @@ module _ (r : Record) (d out : List ℕ) where
     -- messages: their blocks stand in the datagram
     module _ (b : Bytes d) (first count p : ℕ) where
       abbrev Said : Type 0
-      Said = SaysMessages (blocksAt (r .session)) first count p (hear (r .session) d)
+      Said = SaysMessages (blocksAt (r .session) d) first count p (hear (r .session) d)
 
       pub fills-so : Said → Fills d p first count
       fills-so m = by (m .ms) (m .counts) (m .places) (m .report) where
-        by : (ms : List (List ℕ)) → count ≡ length ms → p ≡ blocksAt (r .session) → hear (r .session) d ≡ taken (messages first ms) → Fills d p first count
+        by : (ms : List (List ℕ)) → count ≡ length ms → p ≡ blocksAt (r .session) d → hear (r .session) d ≡ taken (messages first ms) → Fills d p first count
         by ms c q e = rw (c, q) (sound d b (r .session) (messages first ms) e .stand .0)
 
       pub answers-messages : Said → (a : Taken) (left : List ℕ) → Answered (reporting r (length out) (messages first (blocksFrom d p count))) out a left → Answered (taking r d (length out)) out a left
       answers-messages m a left f = by (m .ms) (m .counts) (m .places) (m .report) where
-        by : (ms : List (List ℕ)) → count ≡ length ms → p ≡ blocksAt (r .session) → hear (r .session) d ≡ taken (messages first ms) → Answered (taking r d (length out)) out a left
+        by : (ms : List (List ℕ)) → count ≡ length ms → p ≡ blocksAt (r .session) d → hear (r .session) d ≡ taken (messages first ms) → Answered (taking r d (length out)) out a left
         by ms c q e =
             let s = sound d b (r .session) (messages first ms) e .stand .1 in
             rw (goes-on (taken (messages first ms)) e) (rw (c, q, s) at f)

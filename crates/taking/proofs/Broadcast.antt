@@ -45,15 +45,15 @@ module _ (r : Record) (own : SessionId) (mine : r .session ≡ Memx own) (d : Li
   w = took r d room t e
 
   -- T becomes the number of a heartbeat, if that is higher, and nothing ends.
-  pub heartbeat-names-the-highest : (session n : ℕ) → memx.read d ≡ taken (heartbeat session n) → (t .after .top .0 ≡ max (r .top .0) n) × (t .after .ended ≡ r .ended)
-  heartbeat-names-the-highest session n f =
-      let said = heard-so (r .session) own d (heartbeat session n) session (news n) (w .report) mine f refl (w .heard) in
+  pub heartbeat-names-the-highest : (session n : ℕ) (extra : List ℕ) → memx.read d ≡ taken (heartbeat session n extra) → (t .after .top .0 ≡ max (r .top .0) n) × (t .after .ended ≡ r .ended)
+  heartbeat-names-the-highest session n extra f =
+      let said = heard-so (r .session) own d (heartbeat session n extra) session (news n) (w .report) mine f refl (w .heard) in
       rw (w .reported .gives, ← said) (refl, or-false (r .ended))
 
   -- T is the number of a shutdown, and the session has ended.
-  pub shutdown-names-the-total : (session n : ℕ) → memx.read d ≡ taken (shutdown session n) → (t .after .top .0 ≡ n) × (t .after .ended ≡ true)
-  shutdown-names-the-total session n f =
-      let said = heard-so (r .session) own d (shutdown session n) session (end n) (w .report) mine f refl (w .heard) in
+  pub shutdown-names-the-total : (session n : ℕ) (extra : List ℕ) → memx.read d ≡ taken (shutdown session n extra) → (t .after .top .0 ≡ n) × (t .after .ended ≡ true)
+  shutdown-names-the-total session n extra f =
+      let said = heard-so (r .session) own d (shutdown session n extra) session (end n) (w .report) mine f refl (w .heard) in
       let high : leb (r .top .0) n ≡ true = no-clash (r .ended && not (leb n (r .top .0))) (leb (r .top .0) n) (rw (← said) at (w .reported .agrees)) in
       let bound = leb-true (r .top .0) n high in
       rw (w .reported .gives, ← said) (omega arith, or-true (r .ended))

@@ -71,6 +71,16 @@ pub struct Difference {
     pub how: String,
 }
 
+impl Difference {
+    /// The same, with a line more before the case.
+    pub fn behind(self, line: &str) -> Difference {
+        Difference {
+            how: format!("{line}\n{}", self.how),
+            ..self
+        }
+    }
+}
+
 /// So many bytes of output that was not written to yet.
 pub fn blank(room: usize) -> Vec<u8> {
     (0..room).map(|place| (place * 7 + 13) as u8).collect()

@@ -5,7 +5,7 @@ use crate::dice::Dice;
 use crate::make;
 use crate::twin::Twin;
 use crate::Case;
-use hinurapay::flat::{hp_packet, hp_tcp, hp_wrote};
+use hinurapay::flat::{hp_packet, hp_read, hp_record, hp_taken, hp_tcp, hp_wrote};
 use ordinary::flat as plain;
 
 /// The longest UFO and MEMX-UDP packet.
@@ -113,7 +113,59 @@ fn memx_read(dice: &mut Dice) -> Result<u64, Difference> {
     let (session, number) = (make::number(dice), make::number(dice));
     let mut packet = make::memx(session, number, dice);
     make::damage(&mut packet, DATAGRAM, dice);
-    both!(hp_memx_read(bytes); lent bytes = &packet).map(Agreed::refusal)
+    memx_both_ways(&packet).map(|read| read.refusal)
+}
+
+/// Reads a MEMX-UDP packet by both desks; what they take they write again with the same bytes. Says
+/// what they answered.
+pub fn memx_both_ways(packet: &[u8]) -> Result<hp_read, Difference> {
+    let read = both!(hp_memx_read(bytes); lent bytes = packet)?.answer;
+    if read.refusal == 0 {
+        let fields = read.packet;
+        let extra = &packet[18..][..fields.extra.into()];
+        let body = &packet[fields.start as usize..][..fields.length as usize];
+        memx_laid(fields, extra, body, blank(packet.len()))?.held_against(packet)?;
+    }
+    Ok(read)
+}
+
+/// Writes a MEMX-UDP packet by both desks into the same output; with which refusal they answered
+/// (0: none), and the output as both left it.
+pub fn memx_written(
+    fields: hp_packet,
+    extra: &[u8],
+    body: &[u8],
+    out: Vec<u8>,
+) -> Result<(hp_wrote, Vec<u8>), Difference> {
+    let Agreed { answer, out } = memx_laid(fields, extra, body, out)?;
+    Ok((answer, out))
+}
+
+/// Writes a MEMX-UDP packet. Extra bytes and body are lent in one piece, so that a smaller case can
+/// be looked for in both.
+pub(crate) fn memx_laid(
+    fields: hp_packet,
+    extra: &[u8],
+    body: &[u8],
+    out: Vec<u8>,
+) -> Result<Agreed<hp_wrote>, Difference> {
+    let lent = [extra, body].concat();
+    let extras = extra.len();
+    both!(
+        hp_memx_write(fields, first(lent, extras), behind(lent, extras), out);
+        lent lent = &lent; room out = out
+    )
+    .map_err(|difference| difference.behind(&format!("extra bytes: the first {extras}")))
+}
+
+/// The first so many bytes, or all of them if they are fewer.
+fn first(bytes: &[u8], count: usize) -> &[u8] {
+    &bytes[..count.min(bytes.len())]
+}
+
+/// What stands behind the first so many bytes.
+fn behind(bytes: &[u8], count: usize) -> &[u8] {
+    &bytes[count.min(bytes.len())..]
 }
 
 /// A place in some bytes: mostly one of those given.
@@ -195,8 +247,10 @@ fn ufo_add_message(dice: &mut Dice) -> Result<u64, Difference> {
 }
 
 fn memx_write(dice: &mut Dice) -> Result<u64, Difference> {
-    let (fields, body) = make::to_write(&[0, 1, 2, 2], &[2], false, DATAGRAM, dice);
-    writing!(hp_memx_write, fields, body, dice)
+    let (fields, extra, body) = make::memx_to_write(DATAGRAM, dice);
+    let mut ample = vec![0; extra.len() + body.len() + FIXED];
+    let needed = plain::hp_memx_write(fields.twin(), &extra, &body, &mut ample).bytes;
+    memx_laid(fields, &extra, &body, room(needed, dice)).map(Agreed::refusal)
 }
 
 fn tcp_read(dice: &mut Dice) -> Result<u64, Difference> {
@@ -237,28 +291,20 @@ fn open_memx(dice: &mut Dice) -> Result<u64, Difference> {
 }
 
 fn take(dice: &mut Dice) -> Result<u64, Difference> {
-    let record = make::record(dice);
-    let number = match dice.below(8) {
-        0 => make::number(dice),
-        1 => make::near(record.top, dice),
-        _ => make::near(record.next, dice),
-    };
-    let mut datagram = if (record.style == 2) != dice.one_in(40) {
-        let session = if dice.one_in(12) {
-            make::number(dice)
-        } else {
-            record.session
-        };
-        make::memx(session, number, dice)
-    } else {
-        make::ufo_down(number, dice)
-    };
-    if dice.one_in(2) {
-        make::damage(&mut datagram, DATAGRAM, dice);
-    }
+    let (record, datagram) = make::to_take(DATAGRAM, dice);
     let needed = plain::hp_take(record.twin(), &datagram, &mut [0; DATAGRAM]).bytes;
-    both!(hp_take(record, bytes, out); lent bytes = &datagram; room out = room(needed, dice))
-        .map(Agreed::refusal)
+    taken(record, &datagram, room(needed, dice)).map(|(taken, _)| taken.refusal)
+}
+
+/// Takes a datagram by both desks into the same output; what they answered, and the output as both
+/// left it.
+pub fn taken(
+    record: hp_record,
+    datagram: &[u8],
+    out: Vec<u8>,
+) -> Result<(hp_taken, Vec<u8>), Difference> {
+    let taken = both!(hp_take(record, bytes, out); lent bytes = datagram; room out = out)?;
+    Ok((taken.answer, taken.out))
 }
 
 fn standing_of(dice: &mut Dice) -> Result<u64, Difference> {

@@ -11,7 +11,7 @@ mod smallest;
 pub mod twin;
 
 pub use both::Difference;
-pub use cases::{soup_both_ways, soup_written, FUNCTIONS};
+pub use cases::{memx_both_ways, memx_written, soup_both_ways, soup_written, taken, FUNCTIONS};
 
 use dice::Dice;
 

@@ -57,7 +57,7 @@ macro_rules! twins {
 }
 
 twins! {
-    hp_packet: r#type reason count user password name session number start length next;
+    hp_packet: r#type reason count user password name session number start length next extra;
     hp_read: refusal packet;
     hp_wrote: refusal bytes;
     hp_block: refusal start length next;

@@ -3,7 +3,7 @@
 use compare::dice::Dice;
 use compare::twin::Twin;
 use compare::{make, run, FUNCTIONS};
-use ordinary::flat::{hp_tcp_read, hp_tcp_write};
+use ordinary::flat::{hp_memx_read, hp_memx_write, hp_take, hp_tcp_read, hp_tcp_write};
 use std::collections::BTreeSet;
 use std::sync::atomic::{AtomicUsize, Ordering};
 use std::thread;
@@ -28,7 +28,7 @@ const EXPECTED: [(&str, &[usize]); 28] = [
     ("hp_ufo_write_down", &[0, 2, 3, 4, 5, 6, 7, 9]),
     ("hp_ufo_write_message", &[0, 2, 3, 4, 5, 6, 7, 9]),
     ("hp_ufo_add_message", &[0, 2, 3, 4, 5, 6, 7, 9]),
-    ("hp_memx_write", &[0, 2, 3, 4, 6, 7, 9]),
+    ("hp_memx_write", &[0, 2, 3, 4, 5, 6, 7, 9]),
     ("hp_tcp_read", &[0, 1, 2, 3, 4, 5, 6]),
     ("hp_tcp_write", &[0, 2, 3, 4, 5, 6, 9]),
     ("hp_open_ufo", &[0, 5, 6]),
@@ -103,8 +103,8 @@ fn the_two_desks_agree_on_more_than_a_million_cases() {
     assert!(cases > 1_000_000);
 }
 
-/// The cases of a function of MEMX-TCP, from their start.
-fn tcp_cases(name: &str) -> impl Iterator<Item = Dice> {
+/// The cases of a function, from their start.
+fn cases_of(name: &str) -> impl Iterator<Item = Dice> {
     let place = FUNCTIONS.iter().position(|&(one, _)| one == name);
     let place = place.expect("the function has cases") as u64;
     (0..cases(name)).map(move |case| Dice::seeded(SEED, place, case))
@@ -113,7 +113,7 @@ fn tcp_cases(name: &str) -> impl Iterator<Item = Dice> {
 #[test]
 fn every_type_of_memx_tcp_is_among_the_cases() {
     let (mut read, mut written) = (BTreeSet::new(), BTreeSet::new());
-    for mut dice in tcp_cases("hp_tcp_read") {
+    for mut dice in cases_of("hp_tcp_read") {
         let mut packet = make::tcp(&mut dice);
         make::damage(&mut packet, 65_538, &mut dice);
         let reading = hp_tcp_read(&packet);
@@ -121,7 +121,7 @@ fn every_type_of_memx_tcp_is_among_the_cases() {
             read.insert(reading.packet.r#type);
         }
     }
-    for mut dice in tcp_cases("hp_tcp_write") {
+    for mut dice in cases_of("hp_tcp_write") {
         let (fields, body) = make::tcp_to_write(&mut dice);
         let mut out = vec![0; body.len() + 64];
         if hp_tcp_write(fields.twin(), &body, &mut out).refusal == 0 {
@@ -130,4 +130,48 @@ fn every_type_of_memx_tcp_is_among_the_cases() {
     }
     assert!(read.into_iter().eq(make::TCP_TYPES), "read");
     assert!(written.into_iter().eq(make::TCP_TYPES), "written");
+}
+
+/// Asks that some header of each length that matters is among those given, each as its type and how
+/// many extra bytes it has, and that a third of them are longer than they need be.
+fn of_every_length(headers: &[(u8, usize)], types: &[u8]) {
+    for &r#type in types {
+        for extras in [0, 1, 2, 9, 235, 236, 237] {
+            let header = (r#type, extras);
+            assert!(headers.contains(&header), "{header:?}");
+        }
+    }
+    let longer = headers.iter().filter(|&&(_, extras)| extras > 0).count();
+    assert!(longer > headers.len() / 3, "{longer} of {}", headers.len());
+}
+
+#[test]
+fn longer_memx_headers_are_among_the_cases() {
+    let (mut read, mut written, mut delivered) = (Vec::new(), Vec::new(), Vec::new());
+    for mut dice in cases_of("hp_memx_read") {
+        let (session, number) = (make::number(&mut dice), make::number(&mut dice));
+        let mut packet = make::memx(session, number, &mut dice);
+        make::damage(&mut packet, 1472, &mut dice);
+        let reading = hp_memx_read(&packet);
+        if reading.refusal == 0 {
+            read.push((packet[0], usize::from(reading.packet.extra)));
+        }
+    }
+    for mut dice in cases_of("hp_memx_write") {
+        let (fields, extra, body) = make::memx_to_write(1472, &mut dice);
+        let wrote = hp_memx_write(fields.twin(), &extra, &body, &mut [0; 1472]);
+        if wrote.refusal == 0 {
+            written.push((fields.r#type, extra.len()));
+        }
+    }
+    for mut dice in cases_of("hp_take") {
+        let (record, datagram) = make::to_take(1472, &mut dice);
+        let taken = hp_take(record.twin(), &datagram, &mut [0; 1472]);
+        if record.style == 2 && taken.messages > 0 {
+            delivered.push((datagram[0], usize::from(datagram[1]) - 18));
+        }
+    }
+    of_every_length(&read, &[0, 1, 2]);
+    of_every_length(&written, &[0, 1, 2]);
+    of_every_length(&delivered, &[2]);
 }

@@ -2,6 +2,13 @@
 
 use compare::session::{play, Memx, Sender, Ufo};
 
+/// A publisher whose headers are as short as may be, and some of a later edition.
+type Memx18 = Memx<0>;
+type Memx19 = Memx<1>;
+type Memx20 = Memx<2>;
+type Memx48 = Memx<30>;
+type Memx255 = Memx<237>;
+
 fn delivers_the_whole_log<S: Sender>(seeds: u64, loss: usize) -> u64 {
     let mut requests = 0;
     for seed in 0..seeds {
@@ -20,13 +27,22 @@ fn a_lossy_ufo_line_delivers_the_whole_log() {
 
 #[test]
 fn a_lossy_memx_line_delivers_the_whole_log() {
-    assert!(delivers_the_whole_log::<Memx>(100, 3) > 100);
+    assert!(delivers_the_whole_log::<Memx18>(100, 3) > 100);
+}
+
+#[test]
+fn a_lossy_memx_line_of_longer_headers_delivers_the_whole_log() {
+    assert!(delivers_the_whole_log::<Memx19>(25, 3) > 25);
+    assert!(delivers_the_whole_log::<Memx20>(25, 3) > 25);
+    assert!(delivers_the_whole_log::<Memx48>(25, 3) > 25);
+    assert!(delivers_the_whole_log::<Memx255>(25, 3) > 25);
 }
 
 #[test]
 fn a_line_that_loses_nothing_delivers_the_whole_log() {
     delivers_the_whole_log::<Ufo>(30, 0);
-    delivers_the_whole_log::<Memx>(30, 0);
+    delivers_the_whole_log::<Memx18>(30, 0);
+    delivers_the_whole_log::<Memx48>(30, 0);
 }
 
 fn delivers_nothing<S: Sender>() {
@@ -39,7 +55,8 @@ fn delivers_nothing<S: Sender>() {
 #[test]
 fn a_line_that_loses_everything_delivers_nothing() {
     delivers_nothing::<Ufo>();
-    delivers_nothing::<Memx>();
+    delivers_nothing::<Memx18>();
+    delivers_nothing::<Memx48>();
 }
 
 fn a_beginning_of_the_log<S: Sender>() {
@@ -59,5 +76,6 @@ fn a_beginning_of_the_log<S: Sender>() {
 #[test]
 fn a_session_that_breaks_off_has_a_beginning_of_the_log() {
     a_beginning_of_the_log::<Ufo>();
-    a_beginning_of_the_log::<Memx>();
+    a_beginning_of_the_log::<Memx18>();
+    a_beginning_of_the_log::<Memx48>();
 }

@@ -94,6 +94,86 @@ fn memx_packets_come_back() {
 }
 
 #[test]
+fn memx_fields_stand_in_their_places() {
+    let (session, highest, first) = (SessionId(7), Sequence(8), Sequence(8));
+    let packets: [(&[u8], memx::Packet); 5] = [
+        (
+            b"\0\x12\0\0\0\0\0\0\0\x07\0\0\0\0\0\0\0\x08",
+            memx::Packet::Heartbeat {
+                session,
+                highest,
+                extra: b"",
+            },
+        ),
+        (
+            b"\0\x13\0\0\0\0\0\0\0\x07\0\0\0\0\0\0\0\x08!",
+            memx::Packet::Heartbeat {
+                session,
+                highest,
+                extra: b"!",
+            },
+        ),
+        (
+            b"\x01\x15\0\0\0\0\0\0\0\x07\0\0\0\0\0\0\0\x08abc",
+            memx::Packet::Shutdown {
+                session,
+                highest,
+                extra: b"abc",
+            },
+        ),
+        (
+            b"\x02\x12\0\0\0\0\0\0\0\x07\0\0\0\0\0\0\0\x08\0\x01\0\x02HI",
+            memx::Packet::Sequenced {
+                session,
+                first,
+                count: 1,
+                extra: b"",
+                blocks: b"\0\x02HI",
+            },
+        ),
+        (
+            b"\x02\x14\0\0\0\0\0\0\0\x07\0\0\0\0\0\0\0\x08\0\x01\0\x02\0\0\0\0",
+            memx::Packet::Sequenced {
+                session,
+                first,
+                count: 2,
+                extra: b"\0\x01",
+                blocks: b"\0\0\0\0",
+            },
+        ),
+    ];
+    for (bytes, packet) in packets {
+        assert_eq!(memx::read(bytes), Ok(packet));
+        let mut out = [0; 30];
+        assert_eq!(memx::write(&packet, &mut out), Ok(bytes.len()));
+        assert_eq!(out[..bytes.len()], *bytes);
+    }
+}
+
+#[test]
+fn a_memx_header_has_237_extra_bytes_at_most() {
+    let (session, highest) = (SessionId(7), Sequence(8));
+    let heartbeat = |extra| memx::Packet::Heartbeat {
+        session,
+        highest,
+        extra,
+    };
+    assert_eq!(memx::MOST_EXTRA, 237);
+    let extra = [0xff; 1455];
+    let mut out = [0; 1500];
+    assert_eq!(memx::write(&heartbeat(&extra[..237]), &mut out), Ok(255));
+    assert_eq!(memx::read(&out[..255]), Ok(heartbeat(&extra[..237])));
+    for (extras, refusal) in [
+        (238, Refusal::Form),
+        (1454, Refusal::Form),
+        (1455, Refusal::Oversize),
+    ] {
+        let wrote = memx::write(&heartbeat(&extra[..extras]), &mut out);
+        assert_eq!(wrote, Err(refusal), "{extras}");
+    }
+}
+
+#[test]
 fn memx_tcp_packets_come_back() {
     round_trips(
         make::tcp,

@@ -77,8 +77,8 @@ functions! {
     /// output's end; as [`hp_ufo_read_up`] refuses what is there, if it is not empty; as it would
     /// refuse the whole; then 9.
     hp_ufo_add_message(fields: hp_packet, lent body, room out, used: u64) -> hp_wrote;
-    /// Writes a MEMX-UDP packet.
-    hp_memx_write(fields: hp_packet, lent body, room out) -> hp_wrote;
+    /// Writes a MEMX-UDP packet with these extra bytes in its header, whatever the field `extra` says.
+    hp_memx_write(fields: hp_packet, lent extra, lent body, room out) -> hp_wrote;
 
     /// Reads one whole MEMX-TCP packet, its three-byte header first.
     hp_tcp_read(lent packet) -> hp_tcp_reading;

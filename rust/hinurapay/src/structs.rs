@@ -72,6 +72,8 @@ structs! {
         length: u64,
         /// [`hp_ufo_read_message`](crate::flat::hp_ufo_read_message): the place of the block after this one; else 0.
         next: u64,
+        /// MEMX-UDP: how many header bytes there are past the 18; they stand from 18 on.
+        extra: u8,
     }
 
     /// A packet that was read.

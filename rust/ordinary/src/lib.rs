@@ -26,8 +26,10 @@
 //!   payload would begin; the length is 0.
 //! - The Soup number `00` has a leading zero (5); only `0` itself spells 0.
 //! - Writing a type that there is not: the packet would be the bytes that every packet of the
-//!   protocol has around the body (UFO 1, an upstream block 3, MEMX-UDP 18, MEMX-TCP 3, Soup 2), so
-//!   it is 2 where those and the body are over the limit, else 3.
+//!   protocol has around the body (UFO 1, an upstream block 3, MEMX-UDP 18 and the extra bytes,
+//!   MEMX-TCP 3, Soup 2), so it is 2 where those and the body are over the limit, else 3.
+//! - Over 237 extra bytes in writing MEMX-UDP are refused where a reader would refuse the header
+//!   length: after 2 and 3, before any 4.
 //! - A Soup reject whose reason is a linefeed is refused in writing as 8, as in reading.
 //! - A UFO request has no bound but its bytes.
 //! - A MEMX-TCP length that is not how many bytes follow the header is 4.

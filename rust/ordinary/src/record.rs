@@ -121,13 +121,18 @@ impl News<'_> {
     #[inline]
     fn from_memx(datagram: &[u8], ours: SessionId) -> Result<News<'_>, Refusal> {
         let (theirs, news) = match memx::read(datagram)? {
-            memx::Packet::Heartbeat { session, highest } => (session, News::Highest(highest.0)),
-            memx::Packet::Shutdown { session, highest } => (session, News::End(highest.0)),
+            memx::Packet::Heartbeat {
+                session, highest, ..
+            } => (session, News::Highest(highest.0)),
+            memx::Packet::Shutdown {
+                session, highest, ..
+            } => (session, News::End(highest.0)),
             memx::Packet::Sequenced {
                 session,
                 first,
                 count,
                 blocks,
+                ..
             } => (session, News::messages(first, count, blocks)),
         };
         if theirs == ours {

@@ -2,13 +2,14 @@
 
 mod common;
 
-use common::{blocks, memx, memx_data, soup_a, soup_l, ufo_e, ufo_s, Dice};
+use common::{blocks, extended, memx, memx_data, soup_a, soup_l, ufo_e, ufo_s, Dice};
 use ordinary::flat::*;
 use ordinary::kinds::Name;
 use ordinary::record::Record;
 
 type Reader = fn(&[u8]) -> hp_read;
-type Writer = fn(hp_packet, &[u8], &mut [u8]) -> hp_wrote;
+/// Writes fields, extra bytes where the protocol has them, and a body.
+type Writer = fn(hp_packet, &[u8], &[u8], &mut [u8]) -> hp_wrote;
 
 fn read_one_message(packet: &[u8]) -> hp_read {
     let whole = hp_ufo_read_up(packet);
@@ -77,11 +78,13 @@ fn specimen(protocol: usize, dice: &mut Dice) -> Vec<u8> {
         }
         2 => {
             let number = dice.pick(&[0, 1, 9, u64::MAX - 3, u64::MAX - 1, u64::MAX]);
-            match dice.below(3) {
+            let packet = match dice.below(3) {
                 0 => memx(0, 7, number),
                 1 => memx(1, 7, number),
                 _ => memx_data(7, number, &lent),
-            }
+            };
+            let extra = dice.pick(&[0, 0, 0, 1, 2, 30, 237]);
+            extended(&packet, &dice.bytes(extra))
         }
         _ => match dice.below(7) {
             0 => soup_a(text, digits),
@@ -94,10 +97,16 @@ fn specimen(protocol: usize, dice: &mut Dice) -> Vec<u8> {
 }
 
 const PROTOCOLS: [(Reader, Writer); 4] = [
-    (hp_ufo_read_down, hp_ufo_write_down),
-    (read_one_message, hp_ufo_write_message),
+    (hp_ufo_read_down, |fields, _, body, out| {
+        hp_ufo_write_down(fields, body, out)
+    }),
+    (read_one_message, |fields, _, body, out| {
+        hp_ufo_write_message(fields, body, out)
+    }),
     (hp_memx_read, hp_memx_write),
-    (hp_soup_read, hp_soup_write),
+    (hp_soup_read, |fields, _, body, out| {
+        hp_soup_write(fields, body, out)
+    }),
 ];
 
 #[test]
@@ -105,6 +114,7 @@ fn whatever_a_reader_takes_is_written_again_as_it_was() {
     for (protocol, (read, write)) in PROTOCOLS.into_iter().enumerate() {
         let mut dice = Dice::seeded(protocol as u64);
         let mut seen = [0; 9];
+        let mut longer = 0;
         for _ in 0..10_000 {
             let mut packet = specimen(protocol, &mut dice);
             damage(&mut packet, &mut dice);
@@ -119,8 +129,13 @@ fn whatever_a_reader_takes_is_written_again_as_it_was() {
                 continue; // damage made it two messages
             }
             let body = &packet[fields.start as usize..][..fields.length as usize];
+            let extra = match fields.extra {
+                0 => &[],
+                length => &packet[18..][..length.into()],
+            };
+            longer += usize::from(fields.extra > 0);
             let mut out = vec![0xee; packet.len() + 3];
-            let wrote = write(fields, body, &mut out);
+            let wrote = write(fields, extra, body, &mut out);
             assert_eq!((wrote.refusal, wrote.bytes), (0, packet.len() as u64));
             assert_eq!(out[..packet.len()], packet);
             assert_eq!(out[packet.len()..], [0xee; 3]);
@@ -128,12 +143,16 @@ fn whatever_a_reader_takes_is_written_again_as_it_was() {
         assert!(seen[0] > 1000, "only {} were taken", seen[0]);
         let given = [3, 4, 5, 6].map(|refusal| seen[refusal]);
         assert!(given.iter().all(|&times| times > 25), "{seen:?}");
+        // only MEMX-UDP has extra bytes
+        let expected = if protocol == 2 { 1000..10_000 } else { 0..1 };
+        assert!(expected.contains(&longer), "{longer} in {protocol}");
     }
 }
 
 /// The packet that would be written for these fields, whether or not it is lawful. A number too
-/// wide for its field is laid as 1; the second answer says whether that was so.
-fn laid(protocol: usize, fields: &hp_packet, body: &[u8]) -> (Vec<u8>, bool) {
+/// wide for its field is laid as 1; the second answer says whether that was so. A header too long
+/// for its length byte is laid as one of no bytes, which no reader takes either.
+fn laid(protocol: usize, fields: &hp_packet, extra: &[u8], body: &[u8]) -> (Vec<u8>, bool) {
     let wide = fields.number > u64::from(u32::MAX);
     let four = if wide { 1 } else { fields.number as u32 }.to_be_bytes();
     let eight = fields.number.to_be_bytes();
@@ -148,6 +167,7 @@ fn laid(protocol: usize, fields: &hp_packet, body: &[u8]) -> (Vec<u8>, bool) {
     let kind = [fields.r#type];
     let digits = format!("{:>20}", fields.number).into_bytes();
     let session = fields.session.to_be_bytes();
+    let header = [u8::try_from(18 + extra.len()).unwrap_or(0)];
     let (fixed, narrow): (Vec<&[u8]>, bool) = match (protocol, fields.r#type) {
         (0, b'A') => (vec![&kind, &name, &four], true),
         (0, b'J') => (vec![&kind, std::slice::from_ref(&reason)], false),
@@ -155,8 +175,8 @@ fn laid(protocol: usize, fields: &hp_packet, body: &[u8]) -> (Vec<u8>, bool) {
         (0, b'E') => (vec![&kind, &four], true),
         (1, b'L') => (vec![&kind, &user, &password, &name], false),
         (1, b'T') => (vec![&kind, &four, &count], true),
-        (2, 2) => (vec![&kind, &[18], &session, &eight, &count], false),
-        (2, _) => (vec![&kind, &[18], &session, &eight], false),
+        (2, 2) => (vec![&kind, &header, &session, &eight, extra, &count], false),
+        (2, _) => (vec![&kind, &header, &session, &eight, extra], false),
         (3, b'J') => (vec![&kind, std::slice::from_ref(&reason)], false),
         (3, b'A') => (vec![&kind, &name, &digits], false),
         (3, b'L') => (vec![&kind, &user, &password, &name, &digits], false),
@@ -199,11 +219,28 @@ fn any_fields(protocol: usize, dice: &mut Dice) -> hp_packet {
         start: dice.roll(),
         length: dice.roll(),
         next: dice.roll(),
+        extra: dice.roll() as u8,
     };
     if dice.one_in(12) {
         fields.name[dice.below(10)] = dice.pick(b"\n-\0");
     }
     fields
+}
+
+/// Extra bytes to be written, where the protocol has them: none, a few, about as many as may be, or
+/// so many that with the body the packet is near its limit.
+fn any_extra(protocol: usize, body: &[u8], dice: &mut Dice) -> Vec<u8> {
+    if protocol != 2 {
+        return vec![];
+    }
+    let length = match dice.below(8) {
+        0 => 236 + dice.below(4),
+        1 => dice.below(300),
+        2 => (1472 + dice.below(7)).saturating_sub(22 + body.len()),
+        3 => 1 + dice.below(9),
+        _ => 0,
+    };
+    dice.bytes(length)
 }
 
 /// A body to be written, at times one that brings the packet near its limit.
@@ -230,21 +267,22 @@ fn a_writer_refuses_as_the_reader_would_refuse_the_packet() {
         for _ in 0..10_000 {
             let fields = any_fields(protocol, &mut dice);
             let body = any_body(limit, &mut dice);
-            let (packet, wide) = laid(protocol, &fields, &body);
+            let extra = any_extra(protocol, &body, &mut dice);
+            let (packet, wide) = laid(protocol, &fields, &extra, &body);
             let expected = match read(&packet).refusal {
                 0 if wide => 7,
                 refusal => refusal,
             };
             seen[expected as usize] += 1;
             let mut out = [0xee; 5000];
-            let wrote = write(fields, &body, &mut out);
+            let wrote = write(fields, &extra, &body, &mut out);
             let bytes = if expected == 0 { packet.len() } else { 0 };
-            assert_eq!(wrote.refusal, expected, "{fields:?} {body:?}");
+            assert_eq!(wrote.refusal, expected, "{fields:?} {extra:?} {body:?}");
             assert_eq!(wrote.bytes, bytes as u64);
             assert_eq!(out[..bytes], packet[..bytes]);
             assert_eq!(out[bytes..], [0xee; 5000][bytes..]);
         }
-        for refusal in [0, 2, 3, 4, 6, 7] {
+        for refusal in [0, 2, 3, 4, 5, 6, 7] {
             // Soup's numbers fit their field whatever they are
             let never = protocol == 3 && refusal == 7;
             assert_eq!(seen[refusal] == 0, never, "{refusal} in {protocol}");
@@ -295,7 +333,7 @@ fn adding_refuses_as_the_reader_would_refuse_the_packets_before_and_after() {
         let fields = any_fields(1, &mut dice);
         let left = 1472_usize.saturating_sub(used).max(50);
         let body = any_body(left, &mut dice);
-        let message = laid(1, &fields, &body);
+        let message = laid(1, &fields, b"", &body);
         let before = out.clone();
         let expected = refused_in_adding(&before, &message, used, out.len());
         seen[expected as usize] += 1;

@@ -2,7 +2,7 @@
 
 mod common;
 
-use common::{blocks, memx, memx_data, soup_a, soup_l, ufo_e, ufo_numbered, ufo_s};
+use common::{blocks, extended, memx, memx_data, soup_a, soup_l, ufo_e, ufo_numbered, ufo_s};
 use ordinary::flat::*;
 
 /// The answer of a reader that refuses.
@@ -250,11 +250,56 @@ fn memx_is_read() {
                 ..kind(2)
             },
         ),
+        (
+            extended(&memx(0, 7, 5), b"!"),
+            hp_packet {
+                session: 7,
+                number: 5,
+                extra: 1,
+                ..kind(0)
+            },
+        ),
+        (
+            extended(&memx(1, 7, 0), &[0xff; 237]),
+            hp_packet {
+                session: 7,
+                extra: 237,
+                ..kind(1)
+            },
+        ),
+        (
+            extended(&memx_data(7, 5, &[b"a", b"bc"]), b"\0\x01"),
+            hp_packet {
+                session: 7,
+                number: 5,
+                count: 2,
+                start: 22,
+                length: 7,
+                extra: 2,
+                ..kind(2)
+            },
+        ),
+        (
+            extended(&memx_data(7, 5, &[b""]), &[0; 237]),
+            hp_packet {
+                session: 7,
+                number: 5,
+                count: 1,
+                start: 257,
+                length: 2,
+                extra: 237,
+                ..kind(2)
+            },
+        ),
     ] {
         assert_eq!(hp_memx_read(&packet), yes(read), "{packet:?}");
     }
     assert_eq!(hp_memx_read(b"\x02"), no(4));
     assert_eq!(hp_memx_read(b"\x03"), no(3));
+    let mut short = extended(&memx_data(7, 0, &[]), b"!");
+    assert_eq!(hp_memx_read(&short), no(6));
+    short[1] = 17;
+    assert_eq!(hp_memx_read(&short), no(5));
 }
 
 #[test]
@@ -282,6 +327,16 @@ fn blocks_are_found() {
 
 type Writer = fn(hp_packet, &[u8], &mut [u8]) -> hp_wrote;
 
+/// Writes a MEMX-UDP packet without extra bytes.
+fn memx_write(fields: hp_packet, body: &[u8], out: &mut [u8]) -> hp_wrote {
+    hp_memx_write(fields, b"", body, out)
+}
+
+/// Writes a MEMX-UDP packet with three extra bytes.
+fn longer_memx_write(fields: hp_packet, body: &[u8], out: &mut [u8]) -> hp_wrote {
+    hp_memx_write(fields, b"\0\x01!", body, out)
+}
+
 /// Types without a body, and how many bytes their packets have.
 type Bodiless<'a> = &'a [(hp_packet, usize)];
 
@@ -304,11 +359,13 @@ fn a_body_where_there_is_none_makes_the_packet_too_long() {
         (kind(b'O'), 3),
     ];
     let memx_udp = [(kind(0), 18), (kind(1), 18)];
-    let writers: [(Writer, usize, Bodiless); 4] = [
+    let longer = [(kind(0), 21), (kind(1), 21)];
+    let writers: [(Writer, usize, Bodiless); 5] = [
         (hp_soup_write, 4098, &soup),
         (hp_ufo_write_down, 1472, &down),
         (hp_ufo_write_message, 1472, &up),
-        (hp_memx_write, 1472, &memx_udp),
+        (memx_write, 1472, &memx_udp),
+        (longer_memx_write, 1472, &longer),
     ];
     for (write, limit, types) in writers {
         for &(fields, fixed) in types {
@@ -326,11 +383,12 @@ fn a_body_where_there_is_none_makes_the_packet_too_long() {
 
 #[test]
 fn an_unknown_type_is_3_unless_the_packet_is_too_long() {
-    let writers: [(Writer, u8, usize); 4] = [
+    let writers: [(Writer, u8, usize); 5] = [
         (hp_soup_write, b'X', 4098 - 2),
         (hp_ufo_write_down, b'T', 1472 - 1),
         (hp_ufo_write_message, b'S', 1472 - 3),
-        (hp_memx_write, 3, 1472 - 18),
+        (memx_write, 3, 1472 - 18),
+        (longer_memx_write, 3, 1472 - 21),
     ];
     for (write, unknown, room) in writers {
         let body = vec![0; room + 1];
@@ -339,6 +397,67 @@ fn an_unknown_type_is_3_unless_the_packet_is_too_long() {
         assert_eq!(write(kind(unknown), &body[..room], &mut out), wrote(3, 0));
         assert_eq!(write(kind(unknown), &body, &mut out), wrote(2, 0));
         assert_eq!(out, [0xee; 5000]);
+    }
+}
+
+#[test]
+fn extra_bytes_are_refused_in_their_turn() {
+    let extra = [0xff; 1456];
+    // a type, so many extra bytes, so many bytes of body, and the refusal; the count is 0
+    for (r#type, extras, body, refusal) in [
+        (0, 237, 0, 9),
+        (0, 238, 0, 5),
+        (0, 237, 1, 4),
+        (0, 238, 1, 5),
+        (1, 238, 1472 - 18 - 238, 5),
+        (1, 238, 1473 - 18 - 238, 2),
+        (1, 237, 1472 - 18 - 237, 4),
+        (1, 237, 1473 - 18 - 237, 2),
+        (1, 1454, 0, 5),
+        (1, 1455, 0, 2),
+        (2, 237, 0, 6),
+        (2, 238, 0, 5),
+        (2, 237, 1, 4),
+        (2, 238, 1, 5),
+        (2, 238, 1472 - 20 - 238, 5),
+        (2, 238, 1473 - 20 - 238, 2),
+        (2, 1452, 0, 5),
+        (2, 1453, 0, 2),
+        (3, 237, 0, 3),
+        (3, 238, 0, 3),
+        (3, 256, 1, 3),
+        (3, 1454, 0, 3),
+        (3, 1455, 0, 2),
+        (3, 238, 1472 - 18 - 238, 3),
+        (255, 238, 1473 - 18 - 238, 2),
+    ] {
+        let answer = hp_memx_write(kind(r#type), &extra[..extras], &vec![0; body], &mut []);
+        assert_eq!(answer, wrote(refusal, 0), "{} {extras} {body}", r#type);
+    }
+}
+
+#[test]
+fn what_is_read_with_extra_bytes_is_written_again() {
+    for packet in [memx(0, 7, 5), memx(1, 7, 0), memx_data(7, 5, &[b"a", b""])] {
+        for extras in 0..=237 {
+            let packet = extended(&packet, &[0x12; 237][..extras]);
+            let hp_read {
+                refusal,
+                packet: read,
+            } = hp_memx_read(&packet);
+            assert_eq!((refusal, usize::from(read.extra)), (0, extras));
+            let body = &packet[read.start as usize..][..read.length as usize];
+            // how many there are is the slice's word, not the field's
+            let fields = hp_packet {
+                extra: !read.extra,
+                ..read
+            };
+            let mut out = vec![0xee; packet.len() + 1];
+            let length = packet.len() as u64;
+            let again = hp_memx_write(fields, &packet[18..18 + extras], body, &mut out);
+            assert_eq!(again, wrote(0, length));
+            assert_eq!(out, [&packet[..], &[0xee]].concat());
+        }
     }
 }
 
@@ -356,10 +475,11 @@ fn writing_ignores_fields_that_the_type_lacks() {
         start: 99,
         length: 98,
         next: 97,
+        extra: 96,
     };
     let of = |r#type| hp_packet { r#type, ..noise };
     let body = b"\0\x01!";
-    let cases: [(Writer, u8, &[u8], &[u8]); 18] = [
+    let cases: [(Writer, u8, &[u8], &[u8]); 20] = [
         (hp_soup_write, b'+', b"hi", b"+hi\n"),
         (hp_soup_write, b'S', b"hi", b"Shi\n"),
         (hp_soup_write, b'U', b"hi", b"Uhi\n"),
@@ -381,8 +501,20 @@ fn writing_ignores_fields_that_the_type_lacks() {
         (hp_ufo_write_message, b'T', b"", b"\0\x07T\0\0\0\x03\0\x01"),
         (hp_ufo_write_message, b'U', b"hi", b"\0\x03Uhi"),
         (hp_ufo_write_message, b'R', b"", b"\0\x01R"),
-        (hp_memx_write, 0, b"", &memx(0, 7, 3)),
-        (hp_memx_write, 2, body, &memx_data(7, 3, &[b"!"])),
+        (memx_write, 0, b"", &memx(0, 7, 3)),
+        (memx_write, 2, body, &memx_data(7, 3, &[b"!"])),
+        (
+            longer_memx_write,
+            1,
+            b"",
+            &extended(&memx(1, 7, 3), b"\0\x01!"),
+        ),
+        (
+            longer_memx_write,
+            2,
+            body,
+            &extended(&memx_data(7, 3, &[b"!"]), b"\0\x01!"),
+        ),
     ];
     for (write, kind, body, packet) in cases {
         let mut out = [0xee; 100];
@@ -556,6 +688,24 @@ fn taking_keeps_what_the_style_does_not_look_at() {
     assert_eq!(out[..delivered.len()], delivered);
     assert_eq!(out[delivered.len()..], [0xee; 100][delivered.len()..]);
 
+    let datagram = memx_data(1234, 2, &[b"two", b"three", b"four"]);
+    let datagram = extended(&datagram, b"\0\x01\0\0");
+    let mut out = [0xee; 100];
+    let taken = hp_take(BROADCAST, &datagram, &mut out);
+    let delivered = blocks(&[b"three", b"four"]);
+    let after = hp_taken {
+        refusal: 0,
+        bytes: delivered.len() as u64,
+        messages: 2,
+        record: hp_record {
+            next: 5,
+            ..BROADCAST
+        },
+    };
+    assert_eq!(taken, after);
+    assert_eq!(out[..delivered.len()], delivered);
+    assert_eq!(out[delivered.len()..], [0xee; 100][delivered.len()..]);
+
     let taken = hp_take(BROADCAST, &memx(1, 1234, 9), &mut []);
     let after = hp_taken {
         record: hp_record {
@@ -588,6 +738,8 @@ fn taking_hands_the_record_back_on_a_refusal() {
         (RECORD, vec![], 1),
         (RECORD, b"JA".to_vec(), 16),
         (BROADCAST, memx(0, 1, 1), 11),
+        (BROADCAST, extended(&memx(0, 1, 1), b"!"), 11),
+        (BROADCAST, [&memx(0, 1234, 1)[..], b"!"].concat(), 4),
         (BROADCAST, ufo_e(5), 3),
         (ended, ufo_e(6), 12),
         (ended, ufo_numbered(3, 1), 9),

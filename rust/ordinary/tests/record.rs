@@ -2,7 +2,7 @@
 
 mod common;
 
-use common::{memx, memx_data, number, numbered, ufo_e, ufo_numbered, ufo_s};
+use common::{extended, memx, memx_data, number, numbered, ufo_e, ufo_numbered, ufo_s};
 use ordinary::clock::{Patience, Sheet};
 use ordinary::kinds::{Name, Sequence, SessionId};
 use ordinary::record::{Asked, Delivered, Record, Session, Standing};
@@ -102,6 +102,14 @@ fn the_readers_refusals_come_through() {
         (memx_data(7, 0, &[b""]), 3, 6),
         (ufo_s(u32::MAX, &[b""]), 7, 3),
         (memx(0, 7, u64::MAX), 3, 7),
+        (
+            extended(&memx_data(7, 1, &[b""]), b"!")[..22].to_vec(),
+            3,
+            4,
+        ),
+        ([&[0, 17], &[0; 17][..]].concat(), 3, 5),
+        (extended(&memx_data(7, 0, &[b""]), b"!"), 3, 6),
+        (extended(&memx(1, 7, u64::MAX), b"!"), 3, 7),
     ] {
         assert_eq!(take(fresh, &datagram), Err(ufo), "{datagram:?}");
         assert_eq!(take(broadcast, &datagram), Err(memx_udp), "{datagram:?}");
@@ -123,6 +131,7 @@ fn another_session_is_11_before_any_contradiction() {
     assert_eq!(take(ended, &memx(0, 8, 6)), Err(11));
     assert_eq!(take(ended, &memx_data(8, 6, &[b"a"])), Err(11));
     assert_eq!(take(ended, &memx(1, 8, u64::MAX)), Err(7));
+    assert_eq!(take(ended, &extended(&memx(1, 8, 4), b"!")), Err(11));
 }
 
 #[test]
@@ -143,6 +152,7 @@ fn contradictions() {
     assert_eq!(take(ended, &memx(1, 7, 4)), Err(12));
     assert_eq!(take(ended, &memx(1, 7, 6)), Err(12));
     assert_eq!(take(ended, &memx_data(7, 6, &[b"a"])), Err(12));
+    assert_eq!(take(ended, &extended(&memx(0, 7, 6), b"!")), Err(12));
     assert_eq!(take(ended, &memx(0, 7, 5)), Ok((ended, vec![], 0)));
 }
 
@@ -175,6 +185,8 @@ fn heartbeats_and_ends_move_the_top_only() {
         (memx(0, 7, 6), 6, false),
         (memx(1, 7, 5), 5, true),
         (memx(1, 7, u64::MAX - 1), u64::MAX - 1, true),
+        (extended(&memx(0, 7, 6), &[0; 237]), 6, false),
+        (extended(&memx(1, 7, 5), b"\0\0\0\0\0\0\0\x09"), 5, true),
     ] {
         let after = record(MEMX, 3, top, ended, 2);
         assert_eq!(take(given, &datagram), Ok((after, vec![], 0)));
@@ -205,6 +217,56 @@ fn data_before_at_and_after_the_next_number() {
             "{count} from {first}"
         );
     }
+}
+
+#[test]
+fn a_longer_header_is_skipped_and_the_blocks_are_delivered_from_the_next_number_on() {
+    let texts: Vec<String> = (1..=9).map(|number| format!("message {number}")).collect();
+    let messages: Vec<&[u8]> = texts.iter().map(|text| text.as_bytes()).collect();
+    let given = record(MEMX, 5, 6, false, 5);
+    // extra bytes that no field could have, and such as look like a count and blocks
+    for extra in [
+        &b"!"[..],
+        b"\0\x01",
+        b"\0\x02\0\0\0\0",
+        &[0xff; 237],
+        &[0; 237],
+    ] {
+        for (first, count, delivered, top) in [
+            (1, 4, 5..5, 6),
+            (1, 5, 5..6, 6),
+            (2, 6, 5..8, 7),
+            (5, 1, 5..6, 6),
+            (5, 5, 5..10, 9),
+            (6, 1, 5..5, 6),
+            (6, 4, 5..5, 9),
+        ] {
+            let sent = &messages[first - 1..first - 1 + count];
+            let datagram = extended(&memx_data(7, first as u64, sent), extra);
+            let due = common::blocks(&messages[delivered.start - 1..delivered.end - 1]);
+            let after = record(MEMX, delivered.end as u64, top, false, 5);
+            let had = delivered.len() as u64;
+            assert_eq!(
+                take(given, &datagram),
+                Ok((after, due, had)),
+                "{count} from {first} behind {extra:?}"
+            );
+        }
+    }
+}
+
+#[test]
+fn a_longer_header_needs_no_room() {
+    let given = record(MEMX, 2, 3, false, 0);
+    let datagram = extended(&memx_data(7, 1, &[b"had", b"two", b"three"]), &[0xff; 100]);
+    let due = common::blocks(&[b"two", b"three"]);
+    let mut tape = vec![0xee; due.len() - 1];
+    assert_eq!(given.take(&datagram, &mut tape), Err(Refusal::Room));
+    assert!(tape.iter().all(|&byte| byte == 0xee));
+    tape.push(0xee);
+    let taken = given.take(&datagram, &mut tape).unwrap();
+    assert_eq!((taken.bytes, taken.messages), (due.len(), 2));
+    assert_eq!(tape, due);
 }
 
 #[test]

@@ -2,7 +2,7 @@
 
 mod common;
 
-use common::{blocks, memx, memx_data, Dice};
+use common::{blocks, extended, memx, memx_data, Dice};
 use ordinary::clock::{Patience, Sheet};
 use ordinary::kinds::{Name, Sequence, SessionId};
 use ordinary::lend::Log;
@@ -235,13 +235,16 @@ fn a_broadcast_that_loses_lacks_everything_from_the_first_hole() {
         let mut line = Line::losing(30);
         line.shuffle = 1 + seed as usize % 2;
         let messages: Vec<Vec<u8>> = (1..=50u8).map(|number| vec![number; 3]).collect();
+        // two broadcasters in four have a longer header
+        let extra = &[0, 1, 0, 0, 0xff][..seed as usize / 2 % 2 * 5];
         for (first, pair) in (1..).step_by(2).zip(messages.chunks(2)) {
             let pair: Vec<&[u8]> = pair.iter().map(Vec::as_slice).collect();
-            line.send(&memx_data(7, first, &pair), &mut dice);
-            line.send(&memx(0, 7, first + 1), &mut dice);
+            let pair = memx_data(7, first, &pair);
+            line.send(&extended(&pair, extra), &mut dice);
+            line.send(&extended(&memx(0, 7, first + 1), extra), &mut dice);
         }
         line.loss = usize::MAX;
-        line.send(&memx(1, 7, 50), &mut dice);
+        line.send(&extended(&memx(1, 7, 50), extra), &mut dice);
 
         let mut record = Record::open_memx(SessionId(7));
         let mut delivered = Vec::new();

@@ -128,6 +128,7 @@ fn the_example_of_the_memx_paper() {
         session: SessionId(1),
         first: Sequence(6),
         count: 2,
+        extra: b"",
         blocks: &lent,
     };
     assert_eq!(memx_udp::read(&packet), Ok(read));

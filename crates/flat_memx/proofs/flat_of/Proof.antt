@@ -11,32 +11,38 @@ no-packet-requires c κs = search needs
 enum-known-said-2 : tie.Need-enum-known-said-2
 enum-known-said-2 c = search needs
 
-numbered-requires : tie.Need-numbered-requires
-numbered-requires c κs = search needs
+broadcast-requires : tie.Need-broadcast-requires
+broadcast-requires c κs = search needs
 
 enum-known-said-3 : tie.Need-enum-known-said-3
 enum-known-said-3 c = search needs
 
-numbered-requires-2 : tie.Need-numbered-requires-2
-numbered-requires-2 c κs = search needs
+broadcast-requires-2 : tie.Need-broadcast-requires-2
+broadcast-requires-2 c κs = search needs
 
 enum-known-said-4 : tie.Need-enum-known-said-4
 enum-known-said-4 c = search needs
 
-counted-requires : tie.Need-counted-requires
-counted-requires c κs = search needs
+cast-broadcast : tie.Need-cast-broadcast
+cast-broadcast c = search needs
+
+add-broadcast : tie.Need-add-broadcast
+add-broadcast c = search needs
+
+broadcast-requires-3 : tie.Need-broadcast-requires-3
+broadcast-requires-3 c κs = search needs
 
 returns : tie.Need-returns
 returns c = rw (c .no-packet .ensures, c .before .before .said .given .1)
 
 returns-2 : tie.Need-returns-2
-returns-2 c = rw (c .numbered .ensures, c .before .before .said2 .given .1)
+returns-2 c = rw (c .broadcast .ensures, c .before .before .said2 .given .1)
 
 returns-3 : tie.Need-returns-3
-returns-3 c = rw (c .numbered2 .ensures, c .before .before .said3 .given .1)
+returns-3 c = rw (c .broadcast2 .ensures, c .before .before .said3 .given .1)
 
 returns-4 : tie.Need-returns-4
-returns-4 c = rw (c .counted .ensures, c .before .before .said4 .given .1)
+returns-4 c = rw (c .broadcast3 .ensures, c .before .before .said4 .given .1)
 
 pub flat-of-spec : {M : Type 1} → statement M
 flat-of-spec =
@@ -45,11 +51,13 @@ flat-of-spec =
     enum-known-said
     no-packet-requires
     enum-known-said-2
-    numbered-requires
+    broadcast-requires
     enum-known-said-3
-    numbered-requires-2
+    broadcast-requires-2
     enum-known-said-4
-    counted-requires
+    cast-broadcast
+    add-broadcast
+    broadcast-requires-3
     returns
     returns-2
     returns-3

@@ -1,93 +1,98 @@
-use Prim.Native.Nat.{_+_}
+use Prim.Native.Nat.{_+_, _≤_}
+use mathlib.Core.Path.{_≡_}
+use mathlib.Core.List.{[]}
 use denote.Ref.{now}
-use borrow.Author.Tests.{eq-eqb, ne-eqb}
-use lib.ListN.{length}
-use Rattle.flat_memx.specs.Writing.{memxReply}
+use native.Mathlib.Omega.{arith}
+use borrow.Author.Tests.{eq-eqb}
+use lib.ListN.{length, drop-of-length-le}
+use Rattle.memx.specs.Packet.{write}
 use Rattle.flat_packet.proofs.Unfitting.{unfits}
+use Rattle.flat_memx.specs.Writing.{memxReply}
+use Rattle.flat_memx.proofs.Refusing.{unknown-type, news-with-body}
 use borrow.Author.Needs.{needs}
 use Rattle.flat_memx.proofs.written.Statement.{statement}
 use Rattle.flat_memx.proofs.written.Tie as tie
 
-unfit-requires : tie.Need-unfit-requires
-unfit-requires c κs = search needs
-
-returns : tie.Need-returns
-unfolding memxReply
-returns c =
-    let n = length (now (c .before .before .before .before .before .args .body)) in
-    unfits _ _ 1472 (18 + n) 4 _ (rw (c .before .before .match .keys1, ne-eqb n 0 (c .before .if1 .taken))) (c .unfit .ensures)
-
-write-heartbeat-requires : tie.Need-write-heartbeat-requires
-write-heartbeat-requires c κs = search needs
-
-unfit-requires-2 : tie.Need-unfit-requires-2
-unfit-requires-2 c κs = search needs
-
-returns-2 : tie.Need-returns-2
-unfolding memxReply
-returns-2 c =
-    let n = length (now (c .before .before .before .before .before .args .body)) in
-    unfits _ _ 1472 (18 + n) 4 _ (rw (c .before .before .match .keys2, ne-eqb n 0 (c .before .if2 .taken))) (c .unfit2 .ensures)
-
-write-shutdown-requires : tie.Need-write-shutdown-requires
-write-shutdown-requires c κs = search needs
+add-header : tie.Need-add-header
+add-header c = search needs
 
 write-messages-requires : tie.Need-write-messages-requires
 write-messages-requires c κs = search needs
 
-unfit-requires-3 : tie.Need-unfit-requires-3
-unfit-requires-3 c κs = search needs
-
 same-length : tie.Need-same-length
 same-length c = search needs
 
-returns-3 : tie.Need-returns-3
+returns : tie.Need-returns
 unfolding memxReply
+returns c = rw (eq-eqb _ 2 (c .before .before .before .before .if1 .taken)) (c .before .before .write-messages .ensures)
+
+unfit-requires : tie.Need-unfit-requires
+unfit-requires c κs = search needs
+
+returns-2 : tie.Need-returns-2
+returns-2 c =
+    let a = c .before .before .before .before .before .before .args in
+    let extra = now (a .extra) in
+    let body = now (a .body) in
+    unfits _ _ 1472 (18 + length extra + length body) 3 _ (unknown-type (a .fields) extra body _ (c .before .if2 .taken)) (c .unfit .ensures)
+
+bodiless-requires : tie.Need-bodiless-requires
+bodiless-requires c κs = search needs
+
+unfit-requires-2 : tie.Need-unfit-requires-2
+unfit-requires-2 c κs = search needs
+
+returns-3 : tie.Need-returns-3
 returns-3 c =
-    let n = length (now (c .before .before .before .before .before .before .before .before .args .body)) in
-    rw (c .before .before .before .before .before .match .keys1, eq-eqb n 0 (c .before .before .before .before .if1 .left)) (c .before .before .write-heartbeat .ensures)
+    let a = c .before .before .before .before .before .before .before .before .args in
+    let extra = now (a .extra) in
+    let body = now (a .body) in
+    let kind : a .fields .kind ≤ 1 = omega arith in
+    unfits _ _ 1472 (18 + length extra + length body) (c .before .bodiless .result) _ (rw (c .before .bodiless .ensures) (news-with-body (a .fields) extra body _ (omega arith) (omega arith) kind (omega arith))) (c .unfit2 .ensures)
+
+write-heartbeat-requires : tie.Need-write-heartbeat-requires
+write-heartbeat-requires c κs = search needs
+
+write-shutdown-requires : tie.Need-write-shutdown-requires
+write-shutdown-requires c κs = search needs
 
 same-length-2 : tie.Need-same-length-2
 same-length-2 c = search needs
 
 returns-4 : tie.Need-returns-4
-unfolding memxReply
+unfolding memxReply write
 returns-4 c =
-    let n = length (now (c .before .before .before .before .before .before .before .before .args .body)) in
-    rw (c .before .before .before .before .before .match .keys2, eq-eqb n 0 (c .before .before .before .before .if2 .left)) (c .before .before .write-shutdown .ensures)
+    let a = c .before .before .before .before .before .before .before .before .before .before .before .args in
+    let none : now (a .body) ≡ [] = drop-of-length-le (now (a .body)) {i = 0} (omega arith) in
+    rw (none, c .before .before .before .before .if4 .taken) (c .before .before .write-heartbeat .ensures)
 
 same-length-3 : tie.Need-same-length-3
 same-length-3 c = search needs
 
 returns-5 : tie.Need-returns-5
-unfolding memxReply
-returns-5 c = rw (c .before .before .before .before .match .keys3) (c .before .before .write-messages .ensures)
-
-returns-6 : tie.Need-returns-6
-unfolding memxReply
-returns-6 c =
-    let a = c .before .before .before .before .args in
-    let k = a .fields .kind in
-    let n = length (now (a .body)) in
-    let m = c .before .match .rest in
-    unfits _ _ 1472 (18 + n) 3 _ (rw (ne-eqb k 0 (m .0 .0 .1), ne-eqb k 1 (m .0 .1), ne-eqb k 2 (m .1))) (c .unfit3 .ensures)
+unfolding memxReply write
+returns-5 c =
+    let a = c .before .before .before .before .before .before .before .before .before .before .before .args in
+    let none : now (a .body) ≡ [] = drop-of-length-le (now (a .body)) {i = 0} (omega arith) in
+    let shutdown : a .fields .kind ≡ 1 = omega arith in
+    rw (none, shutdown) (c .before .before .write-shutdown .ensures)
 
 pub written-spec : {M : Type 1} → statement M
 written-spec =
     tie.close
     (tie.spec
-    unfit-requires
-    returns
-    write-heartbeat-requires
-    unfit-requires-2
-    returns-2
-    write-shutdown-requires
+    add-header
     write-messages-requires
-    unfit-requires-3
     same-length
+    returns
+    unfit-requires
+    returns-2
+    bodiless-requires
+    unfit-requires-2
     returns-3
+    write-heartbeat-requires
+    write-shutdown-requires
     same-length-2
     returns-4
     same-length-3
-    returns-5
-    returns-6)
+    returns-5)

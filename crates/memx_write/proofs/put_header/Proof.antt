@@ -1,8 +1,8 @@
-use Prim.Native.Nat.{ℕ}
+use Prim.Native.Nat.{ℕ, _+_}
 use mathlib.Core.List.{List, []}
-use mathlib.Core.Path.{_≡_, ap, _∙_}
-use lib.ListN.{length, set, length-set}
-use lib.Seq.{sets}
+use mathlib.Core.Path.{_≡_}
+use lib.ListN.{length, take, drop, set, length-set}
+use lib.Seq.{take-length, sets}
 use denote.Ref.{now}
 use native.Mathlib.Omega.{arith}
 use Rattle.wire.specs.Fields.{bytesOf}
@@ -13,15 +13,19 @@ use Rattle.memx_write.proofs.put_header.Statement.{statement}
 use Rattle.memx_write.proofs.put_header.Tie as tie
 
 -- the type and the header's length leave the output as long as it was
-kept : (out : List ℕ) (kind : ℕ) → length (set (set out 0 kind) 1 18) ≡ length out
-kept out kind = simp length-set
+kept : (out : List ℕ) (kind header : ℕ) → length (set (set out 0 kind) 1 header) ≡ length out
+kept out kind header = simp length-set
 
--- and the two numbers after them make the header
-stored : (out mid left : List ℕ) (kind session number : ℕ) → mid ≡ sets (set (set out 0 kind) 1 headerSize) 2 (bytesOf 8 session) → left ≡ sets mid 10 (bytesOf 8 number) → left ≡ sets out 0 (headed kind session number [])
-stored out mid left kind session number e f = f ∙ ap (λ (x : List ℕ). sets x 10 (bytesOf 8 number)) e ∙ header-put out kind session number
+-- and the two numbers and the extra bytes after them make the header
+stored : (out a b left extra : List ℕ) (kind session number : ℕ) → a ≡ sets (set (set out 0 kind) 1 (headerSize + length extra)) 2 (bytesOf 8 session) → b ≡ sets a 10 (bytesOf 8 number) → left ≡ sets b 18 (take (length extra) (drop 0 extra)) → left ≡ sets out 0 (headed kind session number extra [])
+stored out a b left extra kind session number e f g =
+    rw (g, f, e, take-length) (header-put out kind session number extra)
 
 slice-write-out : tie.Need-slice-write-out
 slice-write-out c = search needs
+
+add-out : tie.Need-add-out
+add-out c = search needs
 
 cast-out : tie.Need-cast-out
 cast-out c = search needs
@@ -33,24 +37,29 @@ put8-requires : tie.Need-put8-requires
 put8-requires c κs = simp length-set (omega arith)
 
 put8-requires-2 : tie.Need-put8-requires-2
-put8-requires-2 c κs = let a = c .before .before .before .before .before .before .args in omega (arith, kept (now (a .out)) (a .kind))
+put8-requires-2 c κs = let a = c .before .before .before .before .before .before .before .args in omega (arith, kept (now (a .out)) (a .kind) (headerSize + length (now (a .extra))))
+
+copy-requires : tie.Need-copy-requires
+copy-requires c κs = let a = c .before .before .before .before .before .before .before .before .before .before .before .args in let k = kept (now (a .out)) (a .kind) (headerSize + length (now (a .extra))) in (omega arith, omega arith)
 
 same-length : tie.Need-same-length
-same-length c = let a = c .before .before .before .before .before .before .before .before .before .args in omega (arith, kept (now (a .out)) (a .kind))
+same-length c = let a = c .before .before .before .before .before .before .before .before .before .before .before .before .before .before .args in omega (arith, kept (now (a .out)) (a .kind) (headerSize + length (now (a .extra))))
 
 returns : tie.Need-returns
 returns c =
-    let a = c .before .before .before .before .before .before .before .before .before .args in
-    stored (now (a .out)) _ _ (a .kind) (a .session .0) (a .number .0) (c .before .before .before .before .before .before .put8 .ensures) (c .before .before .put82 .ensures)
+    let a = c .before .before .before .before .before .before .before .before .before .before .before .before .before .before .args in
+    stored (now (a .out)) _ _ _ (now (a .extra)) (a .kind) (a .session .0) (a .number .0) (c .before .before .before .before .before .before .before .before .before .before .put8 .ensures) (c .before .before .before .before .before .before .put82 .ensures) (c .before .before .copy .ensures)
 
 pub put-header-spec : {M : Type 1} → statement M
 put-header-spec =
     tie.close
     (tie.spec
     slice-write-out
+    add-out
     cast-out
     slice-write-out-2
     put8-requires
     put8-requires-2
+    copy-requires
     same-length
     returns)

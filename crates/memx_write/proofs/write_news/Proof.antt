@@ -1,37 +1,80 @@
-use Prim.Native.Nat.{_-_, _^_}
-use mathlib.Core.Path.{_≡_, sym}
-use mathlib.Core.List.{[], _∷_}
+use Prim.Native.Nat.{ℕ, _+_, _-_, _^_, _≤_, _<_}
+use mathlib.Core.Path.{_≡_}
+use mathlib.Core.List.{List, [], _++_}
 use denote.Ref.{now}
 use native.Mathlib.Omega.{arith}
-use borrow.Author.Tests.{le-leb, lt-leb}
-use Rattle.wire.specs.Checks.{_atMost_, taken, _else_, checked}
+use borrow.Author.Tests.{ne-eqb}
+use lib.ListN.{length}
+use Rattle.wire.specs.Checks.{taken, checked}
+use Rattle.wire.specs.Datagram.{limit}
+use Rattle.wire.proofs.Tests.{tests}
 use Rattle.wire.proofs.Settling.{refuses, lacks-room, has-room}
-use Rattle.memx.specs.Packet.{headed}
+use Rattle.memx.specs.Packet.{headerSize, headed}
 use Rattle.memx.specs.Read.{news, read}
 use Rattle.memx.proofs.Header.{length-headed}
-use Rattle.memx.proofs.Verdicts.{news-verdict}
+use Rattle.memx.proofs.Verdicts.{headedChecks, restChecks, news-verdict}
 use borrow.Author.Needs.{needs}
 use Rattle.memx_write.proofs.write_news.Statement.{statement}
 use Rattle.memx_write.proofs.write_news.Tie as tie
 
-verdict : (c : tie.Start) → let a = c .args in let h = a .highest .0 in read (headed (a .kind) (a .session .0) h []) ≡ checked ((h atMost 2 ^ 64 - 2 else 7) ∷ []) (taken (news (a .kind) (a .session .0) h))
+-- what would be written, and what its reader says to it
+abbrev packet : tie.Start → List ℕ
+packet c = let a = c .args in headed (a .kind) (a .session .0) (a .highest .0) (now (a .extra)) []
+
+verdict : (c : tie.Start) → let a = c .args in read (packet c) ≡ checked (headedChecks (a .kind) (now (a .extra)) 0 ++ restChecks (a .highest .0) 0) (taken (news (a .kind) (a .session .0) (a .highest .0) (now (a .extra))))
 verdict c =
     let a = c .args in
-    news-verdict (a .kind) (a .session .0) (a .highest .0) (c .pre) (omega arith) (omega arith)
+    let k = c .pre in
+    news-verdict (a .kind) (a .session .0) (a .highest .0) (now (a .extra)) [] (omega arith) (omega arith) (ne-eqb (a .kind) 2 (λ e. omega arith))
+
+-- past its last test the packet is taken
+passed : (c : tie.Else3) → let s = c .before .before .before .before .before .before in read (packet s) ≡ taken (news (s .args .kind) (s .args .session .0) (s .args .highest .0) (now (s .args .extra)))
+passed c =
+    let s = c .before .before .before .before .before .before in
+    let a = s .args in
+    let k = s .pre in
+    let known : a .kind ≤ 2 = omega arith in
+    let size : headerSize + length (now (a .extra)) + 0 ≤ limit = omega arith in
+    let header : headerSize + length (now (a .extra)) ≤ 255 = omega arith in
+    let bound : a .highest .0 ≤ 2 ^ 64 - 2 = omega arith in
+    rw (verdict s) (search tests)
+
+add-header : tie.Need-add-header
+add-header c = search needs
 
 returns : tie.Need-returns
 returns c =
     let s = c .before .before .before in
-    let h = s .args .highest .0 in
-    refuses _ _ 7 (rw (verdict s, lt-leb h (2 ^ 64 - 2) (omega arith)))
+    let size : limit < headerSize + length (now (s .args .extra)) + 0 = omega arith in
+    refuses _ _ 2 (rw (verdict s) (search tests))
 
 returns-2 : tie.Need-returns-2
 returns-2 c =
     let s = c .before .before .before .before in
     let a = s .args in
-    let packet = headed (a .kind) (a .session .0) (a .highest .0) [] in
-    let l = length-headed (a .kind) (a .session .0) (a .highest .0) [] in
-    lacks-room _ packet (now (a .out)) (rw (verdict s, le-leb (a .highest .0) (2 ^ 64 - 2) (omega arith))) (omega arith)
+    let k = s .pre in
+    let known : a .kind ≤ 2 = omega arith in
+    let size : headerSize + length (now (a .extra)) + 0 ≤ limit = omega arith in
+    let header : 255 < headerSize + length (now (a .extra)) = omega arith in
+    refuses _ _ 5 (rw (verdict s) (search tests))
+
+returns-3 : tie.Need-returns-3
+returns-3 c =
+    let s = c .before .before .before .before .before .before in
+    let a = s .args in
+    let k = s .pre in
+    let known : a .kind ≤ 2 = omega arith in
+    let size : headerSize + length (now (a .extra)) + 0 ≤ limit = omega arith in
+    let header : headerSize + length (now (a .extra)) ≤ 255 = omega arith in
+    let bound : 2 ^ 64 - 2 < a .highest .0 = omega arith in
+    refuses _ _ 7 (rw (verdict s) (search tests))
+
+returns-4 : tie.Need-returns-4
+returns-4 c =
+    let s = c .before .before .before .before .before .before .before in
+    let a = s .args in
+    let l = length-headed (a .kind) (a .session .0) (a .highest .0) (now (a .extra)) [] in
+    lacks-room _ (packet s) (now (a .out)) (rw (passed (c .before))) (omega arith)
 
 put-header-requires : tie.Need-put-header-requires
 put-header-requires c κs = search needs
@@ -39,13 +82,22 @@ put-header-requires c κs = search needs
 same-length : tie.Need-same-length
 same-length c = search needs
 
-returns-3 : tie.Need-returns-3
-returns-3 c =
-    let s = c .before .before .before .before .before .before .before .before in
+returns-5 : tie.Need-returns-5
+returns-5 c =
+    let s = c .before .before .before .before .before .before .before .before .before .before .before in
     let a = s .args in
-    let packet = headed (a .kind) (a .session .0) (a .highest .0) [] in
-    let l = length-headed (a .kind) (a .session .0) (a .highest .0) [] in
-    has-room _ packet (now (a .out)) (rw (verdict s, le-leb (a .highest .0) (2 ^ 64 - 2) (omega arith))) _ _ (sym l) (omega arith) (c .before .before .put-header .ensures)
+    let l = length-headed (a .kind) (a .session .0) (a .highest .0) (now (a .extra)) [] in
+    has-room _ (packet s) (now (a .out)) (rw (passed (c .before .before .before .before .before))) _ _ (omega arith) (omega arith) (c .before .before .put-header .ensures)
 
 pub write-news-spec : {M : Type 1} → statement M
-write-news-spec = tie.close (tie.spec returns returns-2 put-header-requires same-length returns-3)
+write-news-spec =
+    tie.close
+    (tie.spec
+    add-header
+    returns
+    returns-2
+    returns-3
+    returns-4
+    put-header-requires
+    same-length
+    returns-5)

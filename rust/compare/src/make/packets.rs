@@ -1,8 +1,9 @@
 //! Packets, lawful and damaged, and what is to be written as one.
 
-use super::{block, blocks, damage, decimal, few, length, near, number, text};
+use super::{block, blocks, damage, decimal, few, length, near, number, record, text};
 use crate::dice::Dice;
-use hinurapay::flat::hp_packet;
+use hinurapay::flat::{hp_packet, hp_record};
+use hinurapay::memx::MOST_EXTRA;
 
 /// The count that is laid down for so many blocks: mostly the right one.
 fn told(count: usize, dice: &mut Dice) -> u16 {
@@ -27,19 +28,62 @@ pub fn ufo_down(number: u64, dice: &mut Dice) -> Vec<u8> {
     }
 }
 
-/// A MEMX-UDP packet of this session and number.
+/// How many extra bytes a MEMX-UDP header has: half of the time none, else mostly a few.
+fn extras(dice: &mut Dice) -> usize {
+    match dice.below(16) {
+        0 => MOST_EXTRA - dice.below(3),
+        1 => dice.below(MOST_EXTRA),
+        2..=7 => 1 + dice.below(9),
+        _ => 0,
+    }
+}
+
+/// A MEMX-UDP packet of this session and number; at times its header length is not how long its
+/// header is.
 pub fn memx(session: u64, number: u64, dice: &mut Dice) -> Vec<u8> {
     let kind = dice.pick(&[0, 1, 2, 2, 2, 2]);
-    let length = if dice.one_in(20) { dice.byte() } else { 18 };
-    let mut packet = vec![kind, length];
+    let extras = extras(dice);
+    let header_length = match dice.below(40) {
+        0 => dice.byte(),
+        1 => near(18 + extras as u64, dice) as u8,
+        2 => near(18, dice) as u8,
+        _ => 18 + extras as u8,
+    };
+    let mut packet = vec![kind, header_length];
     packet.extend(session.to_be_bytes());
     packet.extend(number.to_be_bytes());
+    packet.extend(dice.bytes(extras));
     if kind == 2 {
         let count = few(dice);
         packet.extend(told(count, dice).to_be_bytes());
         packet.extend(blocks(count, dice));
     }
     packet
+}
+
+/// A record and a datagram for it: mostly of the record's style and session, and about its next
+/// number.
+pub fn to_take(limit: usize, dice: &mut Dice) -> (hp_record, Vec<u8>) {
+    let record = record(dice);
+    let first = match dice.below(8) {
+        0 => number(dice),
+        1 => near(record.top, dice),
+        _ => near(record.next, dice),
+    };
+    let mut datagram = if (record.style == 2) != dice.one_in(40) {
+        let session = if dice.one_in(12) {
+            number(dice)
+        } else {
+            record.session
+        };
+        memx(session, first, dice)
+    } else {
+        ufo_down(first, dice)
+    };
+    if dice.one_in(2) {
+        damage(&mut datagram, limit, dice);
+    }
+    (record, datagram)
 }
 
 /// A UFO packet from the client, and where its blocks begin.
@@ -148,6 +192,7 @@ fn fields(types: &[u8], left: bool, dice: &mut Dice) -> hp_packet {
         start: number(dice),
         length: number(dice),
         next: number(dice),
+        extra: dice.byte(),
     }
 }
 
@@ -190,4 +235,18 @@ pub fn to_write(
         body.clear();
     }
     (fields, body)
+}
+
+/// A MEMX-UDP packet to be written, the extra bytes of its header, and its body: no extra bytes, a
+/// few, about as many as may be, or so many that with the body the whole is about the limit.
+pub fn memx_to_write(limit: usize, dice: &mut Dice) -> (hp_packet, Vec<u8>, Vec<u8>) {
+    let (fields, body) = to_write(&[0, 1, 2, 2], &[2], false, limit, dice);
+    let extras = match dice.below(32) {
+        // beside extra bytes and body a packet has 18 or 20 bytes
+        0 => (limit + dice.below(7)).saturating_sub(22 + body.len()),
+        1 | 2 => MOST_EXTRA - 1 + dice.below(4),
+        3 => dice.below(600),
+        _ => extras(dice),
+    };
+    (fields, dice.bytes(extras), body)
 }

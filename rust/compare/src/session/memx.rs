@@ -2,16 +2,21 @@
 
 use super::{agreed, written, Sender, DATAGRAM};
 use crate::both::{blank, both};
+use crate::cases::memx_laid;
 use crate::dice::Dice;
 use hinurapay::flat::{hp_packet, hp_record};
 
 const SESSION: u64 = 0x0123_4567_89ab_cdef;
 
-/// The most messages in one datagram; two of the longest fit.
+/// The most messages in one datagram; two of the longest fit behind the longest header.
 const MOST: u64 = 2;
 
-/// A MEMX-UDP publisher and all that it has published.
-pub struct Memx {
+/// The longest message.
+const LONGEST: usize = 600;
+
+/// A MEMX-UDP publisher and all that it has published. Its headers have so many bytes past their own
+/// fields, as those of a later edition may.
+pub struct Memx<const EXTRA: usize> {
     messages: u64,
     /// The blocks of every message.
     log: Vec<u8>,
@@ -19,7 +24,18 @@ pub struct Memx {
     places: Vec<usize>,
 }
 
-impl Memx {
+impl<const EXTRA: usize> Memx<EXTRA> {
+    /// What stands in a header past its own fields: what could be counts, and blocks of one byte.
+    const HEADER: [u8; EXTRA] = {
+        let mut bytes = [0; EXTRA];
+        let mut place = 1;
+        while place < EXTRA {
+            bytes[place] = 1;
+            place += 2;
+        }
+        bytes
+    };
+
     fn published(&self) -> u64 {
         self.places.len() as u64 - 1
     }
@@ -32,9 +48,8 @@ impl Memx {
             session: SESSION,
             ..hp_packet::default()
         };
-        let (wrote, out) = agreed(both!(
-            hp_memx_write(fields, lent, out); lent lent = body; room out = blank(DATAGRAM)
-        ));
+        let laid = memx_laid(fields, &Self::HEADER, body, blank(DATAGRAM));
+        let (wrote, out) = agreed(laid);
         written(out, wrote.bytes)
     }
 
@@ -51,8 +66,8 @@ impl Memx {
     }
 }
 
-impl Sender for Memx {
-    fn new(messages: usize) -> Memx {
+impl<const EXTRA: usize> Sender for Memx<EXTRA> {
+    fn new(messages: usize) -> Self {
         Memx {
             messages: messages as u64,
             log: Vec::new(),
@@ -65,7 +80,9 @@ impl Sender for Memx {
     }
 
     fn read(datagram: &[u8]) {
-        agreed(both!(hp_memx_read(bytes); lent bytes = datagram));
+        let (read, _) = agreed(both!(hp_memx_read(bytes); lent bytes = datagram));
+        assert_eq!(usize::from(read.packet.extra), EXTRA);
+        assert_eq!(datagram[18..18 + EXTRA], Self::HEADER);
     }
 
     fn send(&mut self, dice: &mut Dice) -> Vec<u8> {
@@ -75,7 +92,7 @@ impl Sender for Memx {
                 .min(self.messages - published)
                 .min(1 + dice.below(2) as u64);
             for _ in 0..count {
-                let length = dice.pick(&[0, 1, 12, 12, 60, 700]);
+                let length = dice.pick(&[0, 1, 12, 12, 60, LONGEST]);
                 self.log.extend((length as u16).to_be_bytes());
                 self.log.extend(dice.bytes(length));
                 self.places.push(self.log.len());

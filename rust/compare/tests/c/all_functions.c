@@ -165,6 +165,7 @@ static void memx(void) {
     heartbeat[9] = 7;
     hp_read read = hp_memx_read(heartbeat, sizeof heartbeat);
     CHECK(read.refusal == 0 && read.packet.type == 0 && read.packet.session == 7 && read.packet.number == 0);
+    CHECK(read.packet.start == 0 && read.packet.length == 0 && read.packet.extra == 0);
     uint8_t short_header[18] = {0, 17};
     CHECK(hp_memx_read(short_header, sizeof short_header).refusal == 5);
 
@@ -172,10 +173,10 @@ static void memx(void) {
     hp_packet fields = of_type(2);
     fields.session = 7;
     fields.number = 1;
-    CHECK(turned_down(hp_memx_write(fields, NULL, 0, out, sizeof out), 6)); /* a count of 0 */
+    CHECK(turned_down(hp_memx_write(fields, NULL, 0, NULL, 0, out, sizeof out), 6)); /* a count of 0 */
     fields = of_type(0);
     fields.session = 7;
-    CHECK(wrote(hp_memx_write(fields, NULL, 0, out, sizeof heartbeat), heartbeat, sizeof heartbeat));
+    CHECK(wrote(hp_memx_write(fields, NULL, 0, NULL, 0, out, sizeof heartbeat), heartbeat, sizeof heartbeat));
 
     hp_opened opened = hp_open_memx(7);
     CHECK(opened.refusal == 0 && opened.record.style == 2 && opened.record.session == 7 && opened.record.next == 1);
@@ -186,6 +187,57 @@ static void memx(void) {
     heartbeat[9] = 8;
     taken = hp_take(opened.record, heartbeat, sizeof heartbeat, out, sizeof out);
     CHECK(taken.refusal == 11 && same_record(taken.record, opened.record) && laid("", 0));
+}
+
+/* a header of 20 bytes: the two past its own fields are kept, and not looked at */
+static void longer_header(void) {
+    uint8_t packet[29] = {2, 20};
+    packet[9] = 7;
+    packet[17] = 1;
+    memcpy(packet + 18, "\0\1" "\0\2" "\0\0" "\0\2HI", 10); /* extra, a count, 1 empty, 2 "HI" */
+    hp_read read = hp_memx_read(packet, 28);
+    CHECK(read.refusal == 0 && read.packet.type == 2 && read.packet.session == 7 && read.packet.number == 1);
+    CHECK(read.packet.extra == 2 && read.packet.count == 2 && read.packet.start == 22 && read.packet.length == 6);
+    CHECK(read.packet.next == 0);
+    CHECK(hp_memx_read(packet, 29).refusal == 4);
+    CHECK(hp_memx_read(packet, 19).refusal == 4); /* a header longer than the datagram */
+
+    clear();
+    hp_packet fields = read.packet;
+    fields.extra = 200; /* not looked at: the count behind the pointer is */
+    CHECK(turned_down(hp_memx_write(fields, packet + 18, 2, packet + 22, 6, out, 27), 9));
+    CHECK(turned_down(hp_memx_write(fields, packet + 18, 2, packet + 22, 5, out, sizeof out), 4));
+    CHECK(wrote(hp_memx_write(fields, packet + 18, 2, packet + 22, 6, out, 28), packet, 28));
+
+    clear();
+    hp_taken taken = hp_take(hp_open_memx(7).record, packet, 28, out, sizeof out);
+    CHECK(taken.refusal == 0 && taken.messages == 2 && taken.bytes == 6 && laid(packet + 22, 6));
+    CHECK(taken.record.next == 3 && taken.record.top == 2 && taken.record.ended == 0);
+    packet[1] = 17;
+    CHECK(hp_memx_read(packet, 29).refusal == 5); /* before the byte that is left over */
+    clear();
+    taken = hp_take(hp_open_memx(7).record, packet, 29, out, sizeof out);
+    CHECK(taken.refusal == 5 && same_record(taken.record, hp_open_memx(7).record) && laid("", 0));
+}
+
+/* headers of 255 bytes and more */
+static void longest_header(void) {
+    static uint8_t bytes[ROOM] = {1, 255}; /* a shutdown */
+    memset(bytes + 18, 0xff, sizeof bytes - 18);
+    hp_read read = hp_memx_read(bytes, 255);
+    CHECK(read.refusal == 0 && read.packet.type == 1 && read.packet.extra == 237);
+    CHECK(hp_memx_read(bytes, 254).refusal == 4 && hp_memx_read(bytes, 256).refusal == 4);
+
+    clear();
+    hp_packet fields = of_type(1);
+    CHECK(wrote(hp_memx_write(fields, bytes + 18, 237, NULL, 0, out, 255), bytes, 255));
+    clear();
+    CHECK(turned_down(hp_memx_write(fields, bytes + 18, 237, HELLO, 1, out, sizeof out), 4));
+    CHECK(turned_down(hp_memx_write(fields, bytes + 18, 238, HELLO, 1, out, sizeof out), 5));
+    CHECK(turned_down(hp_memx_write(fields, bytes + 18, 1454, NULL, 0, out, sizeof out), 5));
+    CHECK(turned_down(hp_memx_write(fields, bytes + 18, 1454, HELLO, 1, out, sizeof out), 2));
+    CHECK(turned_down(hp_memx_write(of_type(3), bytes + 18, 238, NULL, 0, out, sizeof out), 3));
+    CHECK(turned_down(hp_memx_write(of_type(3), bytes + 18, 1455, NULL, 0, out, sizeof out), 2));
 }
 
 static hp_tcp of_tcp_type(uint8_t type) {
@@ -401,6 +453,8 @@ int main(void) {
     ufo_up();
     adding();
     memx();
+    longer_header();
+    longest_header();
     tcp();
     delivery();
     record();

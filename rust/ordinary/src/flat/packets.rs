@@ -1,6 +1,7 @@
 //! The flat face of packets and blocks.
 
 use super::{hp_wrote, number};
+use crate::fields::end;
 use crate::kinds::{Name, Password, Reason, Sequence, SessionId, User};
 use crate::refusal::Refusal;
 use crate::ufo::{Down, Up};
@@ -32,6 +33,8 @@ pub struct hp_packet {
     pub length: u64,
     /// [`hp_ufo_read_message`]: the place of the block after this one; else 0.
     pub next: u64,
+    /// MEMX-UDP: how many header bytes there are past the 18; they stand from 18 on.
+    pub extra: u8,
 }
 
 /// A packet that was read.
@@ -148,9 +151,9 @@ pub fn hp_ufo_add_message(fields: hp_packet, body: &[u8], out: &mut [u8], used: 
     written.into()
 }
 
-/// Writes a MEMX-UDP packet.
-pub fn hp_memx_write(fields: hp_packet, body: &[u8], out: &mut [u8]) -> hp_wrote {
-    let written = to_memx(&fields, body).and_then(|packet| memx::write(&packet, out));
+/// Writes a MEMX-UDP packet with these extra bytes in its header, whatever the field `extra` says.
+pub fn hp_memx_write(fields: hp_packet, extra: &[u8], body: &[u8], out: &mut [u8]) -> hp_wrote {
+    let written = to_memx(&fields, extra, body).and_then(|packet| memx::write(&packet, out));
     written.into()
 }
 
@@ -370,52 +373,75 @@ fn to_up<'a>(fields: &hp_packet, body: &'a [u8], behind: usize) -> Result<Up<'a>
 
 fn from_memx(packet: &memx::Packet<'_>) -> hp_packet {
     match *packet {
-        memx::Packet::Heartbeat { session, highest } => hp_packet {
-            session: session.0,
-            number: highest.0,
-            ..bare(0)
-        },
-        memx::Packet::Shutdown { session, highest } => hp_packet {
-            session: session.0,
-            number: highest.0,
-            ..bare(1)
-        },
+        memx::Packet::Heartbeat {
+            session,
+            highest,
+            extra,
+        } => headed(session, highest, extra, bare(0)),
+        memx::Packet::Shutdown {
+            session,
+            highest,
+            extra,
+        } => headed(session, highest, extra, bare(1)),
         memx::Packet::Sequenced {
             session,
             first,
             count,
+            extra,
             blocks,
-        } => hp_packet {
-            session: session.0,
-            number: first.0,
-            count,
-            ..with_body(2, memx::DATA_HEADER as u64, blocks)
-        },
+        } => {
+            let start = memx::DATA_HEADER + extra.len();
+            let counted = hp_packet {
+                count,
+                ..with_body(2, start as u64, blocks)
+            };
+            headed(session, first, extra, counted)
+        }
     }
 }
 
-fn to_memx<'a>(fields: &hp_packet, body: &'a [u8]) -> Result<memx::Packet<'a>, Refusal> {
+/// The fields with what every MEMX-UDP header has beside the type; of the extra bytes of one that
+/// was read, 237 at most, a byte can say how many they are.
+fn headed(session: SessionId, number: Sequence, extra: &[u8], fields: hp_packet) -> hp_packet {
+    hp_packet {
+        session: session.0,
+        number: number.0,
+        extra: extra.len() as u8,
+        ..fields
+    }
+}
+
+fn to_memx<'a>(
+    fields: &hp_packet,
+    extra: &'a [u8],
+    body: &'a [u8],
+) -> Result<memx::Packet<'a>, Refusal> {
     let session = SessionId(fields.session);
     let sequence = Sequence(fields.number);
     let packet = match fields.r#type {
         0 => memx::Packet::Heartbeat {
             session,
             highest: sequence,
+            extra,
         },
         1 => memx::Packet::Shutdown {
             session,
             highest: sequence,
+            extra,
         },
         2 => {
             return Ok(memx::Packet::Sequenced {
                 session,
                 first: sequence,
                 count: fields.count,
+                extra,
                 blocks: body,
             })
         }
-        _ => return Err(unknown(memx::HEADER, body, memx::LIMIT)),
+        _ => return Err(unknown(memx::HEADER + extra.len(), body, memx::LIMIT)),
     };
-    bodiless(memx::HEADER, body, memx::LIMIT)?;
+    // a header length comes before a body where there is none
+    memx::header_length(extra, body.len())?;
+    end(body)?;
     Ok(packet)
 }

@@ -84,6 +84,14 @@ pub fn memx_data(session: u64, first: u64, messages: &[&[u8]]) -> Vec<u8> {
     [&memx(2, session, first)[..], &count, &blocks(messages)].concat()
 }
 
+/// A MEMX-UDP packet with these bytes more in its header, which says so.
+pub fn extended(packet: &[u8], extra: &[u8]) -> Vec<u8> {
+    let (header, behind) = packet.split_at(18);
+    let mut packet = [header, extra, behind].concat();
+    packet[1] += extra.len() as u8;
+    packet
+}
+
 /// A MEMX-TCP packet with these bytes behind its header.
 pub fn tcp(kind: u8, bytes: &[u8]) -> Vec<u8> {
     let length = (bytes.len() as u16).to_be_bytes();

@@ -1,5 +1,8 @@
+use Prim.Native.Nat.{_≤_}
+use denote.Ref.{now}
+use native.Mathlib.Omega.{arith}
 use Rattle.wire.proofs.Tests.{tests}
-use Rattle.memx.specs.Read.{read}
+use Rattle.memx.specs.Read.{headerIn, read}
 use borrow.Author.Needs.{needs}
 use Rattle.memx.proofs.reading.read.Statement.{statement}
 use Rattle.memx.proofs.reading.read.Tie as tie
@@ -12,33 +15,46 @@ returns-2 : tie.Need-returns-2
 unfolding read
 returns-2 c = search tests
 
-shared-slice-read-match : tie.Need-shared-slice-read-match
-shared-slice-read-match c = search needs
+shared-slice-read-kind : tie.Need-shared-slice-read-kind
+shared-slice-read-kind c = search needs
 
-read-news-requires : tie.Need-read-news-requires
-read-news-requires c κs = search needs
+returns-3 : tie.Need-returns-3
+unfolding read
+returns-3 c = search tests
 
-read-news-requires-2 : tie.Need-read-news-requires-2
-read-news-requires-2 c κs = search needs
+returns-4 : tie.Need-returns-4
+unfolding read
+returns-4 c = search tests
+
+shared-slice-read-if5 : tie.Need-shared-slice-read-if5
+shared-slice-read-if5 c = search needs
+
+cast-if5 : tie.Need-cast-if5
+cast-if5 c = search needs
+
+returns-5 : tie.Need-returns-5
+unfolding read
+returns-5 c = search tests
 
 read-messages-requires : tie.Need-read-messages-requires
 read-messages-requires c κs = search needs
 
-returns-3 : tie.Need-returns-3
-unfolding read
-returns-3 c = rw (c .read-news .ensures) (search tests)
-
-returns-4 : tie.Need-returns-4
-unfolding read
-returns-4 c = rw (c .read-news2 .ensures, c .before .match .keys2) (search tests)
-
-returns-5 : tie.Need-returns-5
-unfolding read
-returns-5 c = rw (c .read-messages .ensures, c .before .match .keys3) (search tests)
+read-news-requires : tie.Need-read-news-requires
+read-news-requires c κs = search needs
 
 returns-6 : tie.Need-returns-6
 unfolding read
-returns-6 c = search tests
+returns-6 c =
+    let s = c .before .before .before .before .before .before .before .before .before in
+    let byte : headerIn (now (s .before .args .d)) ≤ 255 = let f = s .shared-slice-known .given 1 .fits in omega arith in
+    rw (c .read-messages .ensures) (search tests)
+
+returns-7 : tie.Need-returns-7
+unfolding read
+returns-7 c =
+    let s = c .before .before .before .before .before .before .before .before .before in
+    let byte : headerIn (now (s .before .args .d)) ≤ 255 = let f = s .shared-slice-known .given 1 .fits in omega arith in
+    rw (c .read-news .ensures) (search tests)
 
 pub read-spec : {M : Type 1} → statement M
 read-spec =
@@ -46,11 +62,13 @@ read-spec =
     (tie.spec
     returns
     returns-2
-    shared-slice-read-match
-    read-news-requires
-    read-news-requires-2
-    read-messages-requires
+    shared-slice-read-kind
     returns-3
     returns-4
+    shared-slice-read-if5
+    cast-if5
     returns-5
-    returns-6)
+    read-messages-requires
+    read-news-requires
+    returns-6
+    returns-7)
