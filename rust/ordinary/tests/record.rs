@@ -257,14 +257,19 @@ fn a_longer_header_is_skipped_and_the_blocks_are_delivered_from_the_next_number_
 
 #[test]
 fn a_longer_header_needs_no_room() {
-    let given = record(MEMX, 2, 3, false, 0);
     let datagram = extended(&memx_data(7, 1, &[b"had", b"two", b"three"]), &[0xff; 100]);
+    needs_the_room_of_two_and_three(record(MEMX, 2, 3, false, 0), &datagram);
+}
+
+/// The record takes the datagram, which delivers it "two" and "three", in just the room for these,
+/// and not in a byte less.
+fn needs_the_room_of_two_and_three(given: Record, datagram: &[u8]) {
     let due = common::blocks(&[b"two", b"three"]);
     let mut tape = vec![0xee; due.len() - 1];
-    assert_eq!(given.take(&datagram, &mut tape), Err(Refusal::Room));
+    assert_eq!(given.take(datagram, &mut tape), Err(Refusal::Room));
     assert!(tape.iter().all(|&byte| byte == 0xee));
     tape.push(0xee);
-    let taken = given.take(&datagram, &mut tape).unwrap();
+    let taken = given.take(datagram, &mut tape).unwrap();
     assert_eq!((taken.bytes, taken.messages), (due.len(), 2));
     assert_eq!(tape, due);
 }
@@ -294,14 +299,7 @@ fn the_last_numbers_are_delivered() {
 fn room_is_compared_with_what_is_delivered() {
     let given = record(UFO, 2, 3, false, 0);
     let datagram = ufo_s(1, &[b"long and had already", b"two", b"three"]);
-    let due = common::blocks(&[b"two", b"three"]);
-    let mut tape = vec![0xee; due.len() - 1];
-    assert_eq!(given.take(&datagram, &mut tape), Err(Refusal::Room));
-    assert!(tape.iter().all(|&byte| byte == 0xee));
-    tape.push(0xee);
-    let taken = given.take(&datagram, &mut tape).unwrap();
-    assert_eq!((taken.bytes, taken.messages), (due.len(), 2));
-    assert_eq!(tape, due);
+    needs_the_room_of_two_and_three(given, &datagram);
     // what delivers nothing needs no room
     let late = given.take(&ufo_numbered(1, 1), &mut []).unwrap();
     assert_eq!((late.bytes, late.record), (0, given));
