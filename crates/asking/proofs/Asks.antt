@@ -2,7 +2,7 @@
 -- Assumes nothing.
 use Prim.Native.Nat.{ℕ, _+_, _-_, _≤_, _<_, min}
 use mathlib.Core.List.{[], _∷_}
-use mathlib.Core.Path.{_≡_}
+use mathlib.Core.Path.{_≡_, _∙_}
 use mathlib.Core.Bool.{Bool, true, false, not, _||_, or-true}
 use mathlib.Core.Logic.{_⊎_, inl, inr}
 use native.Mathlib.Omega.{arith}
@@ -15,18 +15,24 @@ use Rattle.wire.proofs.Checks.{all-passed, went}
 use Rattle.clock.specs.Patience.{waitOver}
 use Rattle.clock.specs.declared.sheet.Sheet.{Sheet}
 use Rattle.clock.specs.declared.patience.Patience.{Patience}
+use Rattle.missing.specs.Missing.{isHeld, _at_}
+use Rattle.missing.proofs.Exactly.{first-from-next, first-missing, first-within}
 use Rattle.record.specs.Record.{hangs}
+use Rattle.record.specs.Standing.{missingOf}
 use Rattle.asking.specs.Asking.{nothing, wait, request, askedNow, requestOf, wish, asking}
 use Rattle.record.specs.declared.Record.{Record}
 use Rattle.record.proofs.Hanging.{hanging, hangs-so}
 
--- N and min(T-N+1, 65,535), and A becomes N
+-- N and as many as the first missing range has, at most 65,535, and A becomes N
 pub record Requests (r : Record) (first count : ℕ) (after : Record) : Type 0 where
   pub hangs : hangs r ≡ true
   pub lacks : r .next .0 ≤ r .top .0
   pub from : first ≡ r .next .0
-  pub many : count ≡ min (r .top .0 - r .next .0 + 1) 65535
-  pub changes : after ≡ record { session = r .session; next = r .next; top = r .top; ended = r .ended; asked = r .next }
+  pub many : count ≡ min ((missingOf r at 0) .last .0 - first + 1) 65535
+  pub some : 1 ≤ count
+  pub within : first + count ≤ r .top .0 + 1
+  pub unheld : (k : ℕ) → first ≤ k → k < first + count → isHeld (r .held) (r .next .0) k ≡ false
+  pub changes : after ≡ askedNow r
 
 wishes : (r : Record) (late : Bool) (first count : ℕ) (after : Record) → wish r late ≡ request first count after → (r .next .0 ≤ r .top .0) × (requestOf r ≡ request first count after)
 unfolding wish
@@ -47,14 +53,28 @@ module _ (r : Record) (s : Sheet) (p : Patience) (elapsed : Float) where
       let w = went (waitOver s p elapsed) (λ late. taken (wish r late)) (request first count after) (c .1) in
       let q : wish r (w .by) ≡ request first count after = cc (w .gave) in
       let k = wishes r (w .by) first count after q in
-      record { hangs = c .0 .0; lacks = k .0; from = cc (k .1); many = cc (k .1); changes = cc (k .1) }
+      let range = missingOf r at 0 in
+      let f : first ≡ range .first .0 = cc (k .1) in
+      let m : count ≡ min (range .last .0 - range .first .0 + 1) 65535 = cc (k .1) in
+      let n : range .first .0 ≡ r .next .0 = first-from-next (r .held) (r .next .0) (r .top .0) (k .0) in
+      let l = first-within (r .held) (r .next .0) (r .top .0) (k .0) in
+      record {
+        hangs = c .0 .0;
+        lacks = k .0;
+        from = f ∙ n;
+        many = rw f m;
+        some = omega arith;
+        within = omega arith;
+        unheld = λ i a b. first-missing (r .held) (r .next .0) (r .top .0) (k .0) i (omega arith) (omega arith) .1;
+        changes = cc (k .1);
+      }
 
   -- A record that hangs together hangs together after any request.
   pub asking-hangs : (first count : ℕ) (after : Record) → asking r s p elapsed ≡ taken (request first count after) → hangs after ≡ true
   asking-hangs first count after e =
       let q = requests first count after e in
       let h = hanging r (q .hangs) in
-      rw (q .changes) (hangs-so (askedNow r) (record { begun = h .begun; near = h .near; old = omega arith; bound = h .bound; named = h .named }))
+      rw (q .changes) (hangs-so (askedNow r) (record { begun = h .begun; near = h .near; old = omega arith; bound = h .bound; named = h .named; placed = h .placed }))
 
   module _ (h : hangs r ≡ true) (late : Bool) (e : waitOver s p elapsed ≡ taken late) where
     -- Nothing is asked if nothing is missing.

@@ -8,8 +8,9 @@ use Rattle.wire.specs.Checks.{if_then_else_, _is_, Verdict, refused, taken, _el
 use Rattle.clock.specs.Patience.{waitOver}
 use Rattle.clock.specs.declared.sheet.Sheet.{Sheet}
 use Rattle.clock.specs.declared.patience.Patience.{Patience}
+use Rattle.missing.specs.Missing.{_at_}
 use Rattle.record.specs.Record.{hangs}
-use Rattle.record.specs.Standing.{lacks}
+use Rattle.record.specs.Standing.{lacks, missingOf}
 use Rattle.record.specs.declared.Record.{Record}
 use Rattle.asking.specs.declared.Asked.{Asked}
 use Rattle.asking.specs.declared.Asked.the-variants as asks
@@ -21,11 +22,14 @@ pub data Wish : Type 0 where
 
 -- A becomes N
 abbrev pub askedNow : Record → Record
-askedNow r = record { session = r .session; next = r .next; top = r .top; ended = r .ended; asked = r .next }
+askedNow r =
+    record { session = r .session; next = r .next; top = r .top; ended = r .ended; asked = r .next; held = r .held }
 
--- a request names N and min(T-N+1, 65,535)
+-- a request names exactly the first missing range, its count capped at 65,535
 unfoldable pub requestOf : Record → Wish
-requestOf r = request (r .next .0) (min (r .top .0 - r .next .0 + 1) 65535) (askedNow r)
+requestOf r =
+    let range = missingOf r at 0 in
+    request (range .first .0) (min (range .last .0 - range .first .0 + 1) 65535) (askedNow r)
 
 -- late: the rule has a wait, and elapsed is at least that wait
 unfoldable pub wish : Record → Bool → Wish

@@ -36,17 +36,20 @@ fn request(kept: Record) -> Asked
     let top = kept.top;
     let mut after = kept;
     after.asked = next;
-    let others = top.0 - next.0;
+    let range = missing::at(kept.held, next.0, top.0, 0);
+    let first = range.first;
+    let last = range.last;
+    let others = last.0 - first.0;
     if others < MOST as u64 {
         let count = (others + 1) as u16;
         Asked::Request {
-            first: next,
+            first,
             count,
             after,
         }
     } else {
         Asked::Request {
-            first: next,
+            first,
             count: MOST,
             after,
         }

@@ -10,18 +10,18 @@ use Rattle.memx.specs.Read as memx
 use Rattle.memx.proofs.Specimen.{heartbeat-zero, one-skipped}
 use Rattle.soup.proofs.Specimen.{next-one, twenty-spaces}
 use Rattle.clock.proofs.Specimen as clock
+use Rattle.held.specs.Hanging.{every, inPlace}
 use Rattle.record.specs.Record.{hangs}
-use Rattle.hearing.specs.Hearing.{hear}
-use Rattle.taking.specs.Taking.{reporting, taking}
 use Rattle.record.specs.Standing.{standing}
 use Rattle.book.specs.Entry.{Says, All, none, _and_}
 use Rattle.book.specs.Book.{samples, book}
+use Rattle.book.proofs.Stories.{empty-holds, headers-hold, tale-holds, gaps-hold}
 
 sampled : Says samples
 sampled = (clock.samples .0, clock.waits .0, (clock.samples .1, clock.waits .1, (clock.samples .2, clock.waits .2, tt)))
 
 pub all-hold : All book
-unfolding be bytesOf letterOrDigit blank textThenSpaces frames cut cutFull read readS readE readUp readEach readMessage readT memx.read memx.readNews memx.readMessages hangs hear reporting taking standing
+unfolding be bytesOf letterOrDigit blank textThenSpaces frames cut cutFull read readS readE readUp readEach readMessage readT memx.read memx.readNews memx.readMessages every inPlace hangs standing
 all-hold =
     refl
     and refl
@@ -35,8 +35,9 @@ all-hold =
     and next-one
     and twenty-spaces
     and refl
-    and refl
-    and refl
-    and refl
+    and empty-holds
+    and headers-hold
+    and tale-holds
+    and gaps-hold
     and sampled
     and none

@@ -51,13 +51,13 @@ pub opened-memx-again : (session : ℕ) → knownRecord (openMemx session .opene
 opened-memx-again session = refl
 
 -- once a datagram is taken
-pub taken-again : (given : FlatRecord) (r : Record) (d : List ℕ) (room : ℕ) (t : Taking)
+pub taken-again : (given : FlatRecord) (r : Record) (area d : List ℕ) (room : ℕ) (t : Taking)
     → knownRecord given ≡ taken r
-    → taking r d room ≡ taken t
+    → taking r area d room ≡ taken t
     → knownRecord (flatTaken given (takenOf (taken t)) .after) ≡ taken (t .after)
-taken-again given r d room t e f =
+taken-again given r area d room t e f =
     let k = known given r e in
-    record-again given (t .after) (k .0) (rw (never-falls r d room t f .session, ← k .1))
+    record-again given (t .after) (k .0) (rw (never-falls r area d room t f .session, ← k .1))
 
 -- once a request is made
 pub asked-again : (given : FlatRecord) (r : Record) (s : Sheet) (p : Patience) (elapsed : Float) (after : Record) (first count : ℕ)

@@ -15,7 +15,7 @@ says-so : (v : Verdict State) → flatStanding (standingOf v) .complete ≡ 1 �
 says-so (refused n) e = impossible e
 says-so (taken complete) e = refl
 says-so (taken ongoing) e = impossible e
-says-so (taken (missing first last)) e = impossible e
+says-so (taken (missing ranges)) e = impossible e
 
 pub complete-exactly-if : (given : FlatRecord) → (standingAnswer given .complete ≡ 1) ↔ ((r : Record) × (knownRecord given ≡ taken r) × (standing r ≡ taken complete))
 complete-exactly-if given = (to, back) where

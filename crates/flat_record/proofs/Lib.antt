@@ -1,4 +1,5 @@
 pub mod Complete
+pub mod Ranges
 pub mod Again
 pub mod Rules
 pub mod Settled

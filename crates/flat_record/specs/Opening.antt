@@ -14,7 +14,7 @@ use Rattle.flat_record.specs.declared.opening.FlatOpened.{FlatOpened}
 
 -- a session of a style, and no more
 abbrev pub bare : ℕ → List ℕ → ℕ → FlatRecord
-bare style name session = record { style = style; ended = 0; name = name; session = session; next = 0; top = 0; asked = 0 }
+bare style name session = record { style = style; ended = 0; name = name; session = session; next = 0; top = 0; asked = 0; held = 0 }
 
 abbrev noName : List ℕ
 noName = replicate 10 0

@@ -3,6 +3,7 @@ use flat::flag;
 use flat::name::name_of;
 use record::Record;
 use record::Session;
+use record::standing::MissingRange;
 use record::standing::Standing;
 use taking::Taken;
 use wire::kinds::Sequence;
@@ -10,7 +11,7 @@ use wire::kinds::SessionId;
 use wire::refusal;
 ghost use mathlib.Core.Path.{_≡_};
 ghost use lib.ListN.{length};
-ghost use Rattle.flat_record.specs.Keeping.{sessionOf, recordOf, readable, flatRecord, flatTaken, FlatAnswered, flatStanding, takeVerdict, standingAnswer};
+ghost use Rattle.flat_record.specs.Keeping.{sessionOf, recordOf, readable, flatRecord, flatTaken, FlatAnswered, flatStanding, flatRange, takeVerdict, standingAnswer, rangeAnswer};
 
 // style: 1 UFO, with the name; 2 MEMX-UDP, with the session.
 #[repr(C)]
@@ -22,6 +23,8 @@ pub struct FlatRecord {
     pub next: u64,
     pub top: u64,
     pub asked: u64,
+    // Bit i is 1 where slot i of the held area is full.
+    pub held: u32,
 }
 
 #[repr(C)]
@@ -32,11 +35,19 @@ pub struct FlatTaken {
     pub after: FlatRecord,
 }
 
+// missing: how many ranges are; first to last is the first of them.
 #[repr(C)]
 pub struct FlatStanding {
     pub refusal: u64,
     pub complete: u8,
     pub missing: u8,
+    pub first: u64,
+    pub last: u64,
+}
+
+#[repr(C)]
+pub struct FlatRange {
+    pub refusal: u64,
     pub first: u64,
     pub last: u64,
 }
@@ -70,6 +81,7 @@ pub(crate) fn record_of(given: FlatRecord) -> Record
         top: Sequence(given.top),
         ended: given.ended == 1,
         asked: Sequence(given.asked),
+        held: given.held,
     }
 }
 
@@ -85,6 +97,7 @@ pub(crate) fn flat_record(given: FlatRecord, after: Record) -> FlatRecord
     kept.next = next.0;
     kept.top = top.0;
     kept.asked = asked.0;
+    kept.held = after.held;
     kept
 }
 
@@ -131,8 +144,12 @@ fn flat_standing(standing: Standing) -> FlatStanding
             flat
         }
         Standing::Ongoing => flat,
-        Standing::Missing { first, last } => {
-            flat.missing = 1;
+        Standing::Missing {
+            ranges,
+            first,
+            last,
+        } => {
+            flat.missing = ranges;
             flat.first = first.0;
             flat.last = last.0;
             flat
@@ -140,11 +157,32 @@ fn flat_standing(standing: Standing) -> FlatStanding
     }
 }
 
-pub fn take(given: FlatRecord, datagram: &[u8], out: &mut [u8]) -> FlatTaken
-    ensures { λ r. ⌜ FlatAnswered (takeVerdict given (now (datagram .entry)) (length (now (out .entry)))) given (now (out .entry)) r (now (out .exit)) ⌝ }
+fn flat_range(answer: MissingRange) -> FlatRange
+    ensures { λ r. ⌜ r ≡ flatRange answer ⌝ }
+{
+    match answer {
+        MissingRange::Refused(number) => FlatRange {
+            refusal: number as u64,
+            first: 0,
+            last: 0,
+        },
+        MissingRange::Range(range) => {
+            let first = range.first;
+            let last = range.last;
+            FlatRange {
+                refusal: 0,
+                first: first.0,
+                last: last.0,
+            }
+        }
+    }
+}
+
+pub fn take(given: FlatRecord, area: &mut [u8], datagram: &[u8], out: &mut [u8]) -> FlatTaken
+    ensures { λ r. ⌜ FlatAnswered (takeVerdict given (now (area .entry)) (now (datagram .entry)) (length (now (out .entry)))) given (now (area .entry)) (now (out .entry)) r (now (area .exit)) (now (out .exit)) ⌝ }
 {
     if is_readable(given) {
-        flat_taken(given, taking::take(record_of(given), datagram, out))
+        flat_taken(given, taking::take(record_of(given), area, datagram, out))
     } else {
         flat_taken(given, Taken::Refused(refusal::BROKEN))
     }
@@ -157,5 +195,16 @@ pub fn standing_of(given: FlatRecord) -> FlatStanding
         flat_standing(record::standing::standing_of(record_of(given)))
     } else {
         flat_standing(Standing::Refused(refusal::BROKEN))
+    }
+}
+
+// The missing range at a place, counted from 0; noughts where there is none.
+pub fn missing_range(given: FlatRecord, place: u64) -> FlatRange
+    ensures { λ r. ⌜ r ≡ rangeAnswer given place ⌝ }
+{
+    if is_readable(given) {
+        flat_range(record::standing::missing_range(record_of(given), place))
+    } else {
+        flat_range(MissingRange::Refused(refusal::BROKEN))
     }
 }

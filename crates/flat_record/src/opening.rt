@@ -25,6 +25,7 @@ fn bare(style: u8, name: [u8; 10], session: u64) -> FlatRecord
         next: 0,
         top: 0,
         asked: 0,
+        held: 0,
     }
 }
 

@@ -1,9 +1,11 @@
 -- Demand 3 for a C program: whatever it does at both ends of the line by hinurapay.h, what it holds is a state that `session` reaches, so
 -- that every claim of crates/session/proofs/Claims.antt holds of it.
 -- Assumes nothing.
-use Prim.Native.Nat.{ℕ}
+use Prim.Native.Nat.{ℕ, _≤_}
 use mathlib.Core.List.{List}
+use lib.ListN.{length}
 use Rattle.wire.specs.Fields.{Bytes}
+use Rattle.held.specs.Slots.{areaSize}
 use Rattle.session.specs.Session.{State, Act, step, stop, Run, Reached}
 use Rattle.session.specs.Promise.{Faithful}
 use Rattle.session.proofs.Claims as session
@@ -21,13 +23,14 @@ by-run r h i n = steps-left stop r h i n _ (λ g t run _ j. (t, j, run))
 -- Whatever is true of every state that `session` reaches is true of what the program holds, from the record that hp_open_ufo opened on.
 pub every-claim : (Claim : State → Type 0)
     → ((s : State) → Reached s → Claim s)
-    → (name lent : List ℕ)
+    → (name lent area : List ℕ)
     → Bytes lent
+    → areaSize ≤ length area
     → (n : ℕ)
-    → LeavesOpened name lent (λ h. LeavesSteps n h (HoldsSome Claim))
-every-claim Claim true name lent b n =
-    opened-left name lent b _ (λ h s r i. steps-left stop r h i n (HoldsSome Claim) (λ g t _ q j. (t, j, true t q)))
+    → LeavesOpened name lent area (λ h. LeavesSteps n h (HoldsSome Claim))
+every-claim Claim true name lent area b l n =
+    opened-left name lent area b l _ (λ h s r i. steps-left stop r h i n (HoldsSome Claim) (λ g t _ q j. (t, j, true t q)))
 
 -- As the first: the deliveries are the log's beginning, each message once, in order, none skipped.
-pub faithful : (name lent : List ℕ) → Bytes lent → (n : ℕ) → LeavesOpened name lent (λ h. LeavesSteps n h (HoldsSome Faithful))
+pub faithful : (name lent area : List ℕ) → Bytes lent → areaSize ≤ length area → (n : ℕ) → LeavesOpened name lent area (λ h. LeavesSteps n h (HoldsSome Faithful))
 faithful = every-claim Faithful (λ s r. session.faithful r)

@@ -24,6 +24,7 @@ use Rattle.clock.specs.declared.sheet.Sheet.{Sheet}
 use Rattle.clock.specs.declared.patience.Patience.{Patience}
 use Rattle.log.specs.Log.{Kept, declaring, loggedOf, leftOf}
 use Rattle.log.proofs.Adding.{declared}
+use Rattle.held.specs.Slots.{areaSize}
 use Rattle.taking.specs.Taking.{Taking, taking}
 use Rattle.asking.specs.Asking.{Wish, nothing, wait, request as wanted, asking, askedOf}
 use Rattle.asking.proofs.Asks.{requests}
@@ -76,8 +77,8 @@ visited-left (suc n) bytes place ms c left l =
 module _ (h : Held) (s : State) (i : Holds h s) where
   -- what enters the log
   log-left : (v : Verdict Kept) (x : FlatLogged) (left : List ℕ) → FlatEntered v (h .log) (s .lent) x left → Holds (withLog h x left) (logging s v)
-  log-left (refused n) x left e = record { log = rw (e .answer) (i .log); lent = e .bytes; kept = i .kept; deliveries = i .deliveries; down = i .down; up = i .up }
-  log-left (taken k) x left e = record { log = rw (e .answer) (log-again (k .log)); lent = e .bytes; kept = i .kept; deliveries = i .deliveries; down = i .down; up = i .up }
+  log-left (refused n) x left e = record { log = rw (e .answer) (i .log); lent = e .bytes; kept = i .kept; area = i .area; deliveries = i .deliveries; down = i .down; up = i .up }
+  log-left (taken k) x left e = record { log = rw (e .answer) (log-again (k .log)); lent = e .bytes; kept = i .kept; area = i .area; deliveries = i .deliveries; down = i .down; up = i .up }
 
   end-left : (x : FlatLogged) → x ≡ flatLogged (h .log) (loggedOf (declaring (s .log) (s .lent))) → Holds (withLog h x (h .lent)) (step s declares)
   end-left x e = log-left (declaring (s .log) (s .lent)) x (h .lent) (record { answer = e; bytes = i .lent ∙ same (declaring (s .log) (s .lent)) refl }) where
@@ -87,7 +88,7 @@ module _ (h : Held) (s : State) (i : Holds h s) where
 
   -- what the server sends
   sent-left : (ds es : List (List ℕ)) → ds ≡ es → Holds (sending h ds) (sends s es)
-  sent-left ds es e = record { log = i .log; lent = i .lent; kept = i .kept; deliveries = i .deliveries; down = rw (i .down, e); up = i .up }
+  sent-left ds es e = record { log = i .log; lent = i .lent; kept = i .kept; area = i .area; deliveries = i .deliveries; down = rw (i .down, e); up = i .up }
 
   -- what it sends that is handed a datagram: to each request, to each message, and so to the whole packet
   answer-left : (room first count : ℕ) (left : List (List ℕ) → Type 0) → left (toMessage s room (request first count)) → LeavesAnswered h room first count left
@@ -118,27 +119,27 @@ module _ (h : Held) (s : State) (i : Holds h s) where
     by (taken ms) e l = each-left room d ms 0 left (in-turn d b ms e) (read-is-written d b ms e .0 .all) l
 
   -- what the recorder delivers
-  taken-left : Reached s → (d : List ℕ) → d among s .down → (room : ℕ) (out : List ℕ) (x : FlatTaken) (bytes : List ℕ) → FlatAnswered (taking (s .kept) d room) (h .kept) out x bytes
-      → (left : Held → Type 0) → ((g : Held) → Holds g (step s (takes d room)) → left g) → LeavesVisited (take (x .bytes) bytes) (x .messages) 0 (λ delivered. left (withTaken h x delivered))
-  taken-left r d m room out x bytes e left k = by (taking (s .kept) d room) refl e k where
-    by : (v : Verdict Taking) → taking (s .kept) d room ≡ v → FlatAnswered v (h .kept) out x bytes
-        → ((g : Held) → Holds g (delivering s v) → left g) → LeavesVisited (take (x .bytes) bytes) (x .messages) 0 (λ delivered. left (withTaken h x delivered))
+  taken-left : Reached s → (d : List ℕ) → d among s .down → (room : ℕ) (out : List ℕ) (x : FlatTaken) (area bytes : List ℕ) → FlatAnswered (taking (s .kept) (s .area) d room) (h .kept) (s .area) out x area bytes
+      → (left : Held → Type 0) → ((g : Held) → Holds g (step s (takes d room)) → left g) → LeavesVisited (take (x .bytes) bytes) (x .messages) 0 (λ delivered. left (withTaken h x area delivered))
+  taken-left r d m room out x area bytes e left k = by (taking (s .kept) (s .area) d room) refl e k where
+    by : (v : Verdict Taking) → taking (s .kept) (s .area) d room ≡ v → FlatAnswered v (h .kept) (s .area) out x area bytes
+        → ((g : Held) → Holds g (delivering s v) → left g) → LeavesVisited (take (x .bytes) bytes) (x .messages) 0 (λ delivered. left (withTaken h x area delivered))
     by (refused n) q e k =
         rw (e .answer)
-        (k _ (record { log = i .log; lent = i .lent; kept = i .kept; deliveries = append-nil (h .deliveries) ∙ i .deliveries; down = i .down; up = i .up }))
+        (k _ (record { log = i .log; lent = i .lent; kept = i .kept; area = e .slots; deliveries = append-nil (h .deliveries) ∙ i .deliveries; down = i .down; up = i .up }))
     by (taken t) q e k =
         let ms : List (List ℕ) = t .delivered in
         let known = inv r .line d m in
         let g = told-if-taken s (inv r) d known room t q in
-        let small : length (frames ms) ≤ 1465 = rw (took-so s (inv r) d g room t q) (fits s (inv r) d g) in
-        let again = taken-again (h .kept) (s .kept) d room t (i .kept) q in
+        let small : length (frames ms) ≤ 47097 = rw (took-so s (inv r) d g room t q) (fits s (inv r) d g) in
+        let again = taken-again (h .kept) (s .kept) (s .area) d room t (i .kept) q in
         rw (e .answer, e .bytes, take-append-seam (frames ms) (drop (length (frames ms)) out))
         (visited-left (length ms) (frames ms) 0 ms (cut-frames ms (short-frames ms (omega arith))) _
-        (k _ (record { log = i .log; lent = i .lent; kept = again; deliveries = rw (i .deliveries); down = i .down; up = i .up })))
+        (k _ (record { log = i .log; lent = i .lent; kept = again; area = e .slots; deliveries = rw (i .deliveries); down = i .down; up = i .up })))
 
   -- what the recorder says, with the record that it keeps
   said-left : (kept : FlatRecord) (after : Record) → knownRecord kept ≡ taken after → (ds es : List (List ℕ)) → ds ≡ es → Holds (saying h kept ds) (says-on s after es)
-  said-left kept after k ds es e = record { log = i .log; lent = i .lent; kept = k; deliveries = i .deliveries; down = i .down; up = rw (i .up, e) }
+  said-left kept after k ds es e = record { log = i .log; lent = i .lent; kept = k; area = i .area; deliveries = i .deliveries; down = i .down; up = rw (i .up, e) }
 
   nothing-said : Holds (saying h (h .kept) []) s
   nothing-said = rw (append-nil (s .up)) at (said-left (h .kept) (s .kept) (i .kept) [] [] refl)
@@ -178,14 +179,14 @@ step-left {s} r h i (serves datagram room) left k =
 step-left {s} r h i (takes datagram room) left k =
     λ m κs a x e g p.
     let there : datagram among s .down = rw (i .down) at m in
-    taken-left h s i r datagram there room _ x _ (rw (g .0, g .1, g .2, i .kept) at p) left (λ f. k f there)
+    taken-left h s i r datagram there room _ x _ _ (rw (g .0, g .1, g .2, g .3, i .kept, i .area) at p) left (λ f. k f there)
 step-left {s} r h i (asks sheet rule elapsed room) left k =
     λ κs a x e g p. rw (p, g .0, g .1, g .2, g .3, i .kept) (asked-left h s i sheet rule elapsed room left (λ f. k f tt))
 step-left {s} r h i (says datagram) left k = k _ tt (said-left h s i (h .kept) (s .kept) (i .kept) _ _ refl)
 
 -- one step after another
 on : {s : State} → Reached s → (act : Act) → Allowed s act → Reached (step s act)
-on r act a = record { lent = r .lent; bytes = r .bytes; session = r .session; kept = r .kept; opened = r .opened; run = then (r .run) act a }
+on r act a = record { lent = r .lent; bytes = r .bytes; area = r .area; slots = r .slots; session = r .session; kept = r .kept; opened = r .opened; run = then (r .run) act a }
 
 pub steps-left : {s t : State} → Run s t → Reached t → (h : Held) → Holds h t → (n : ℕ) (left : Held → Type 0)
     → ((g : Held) (u : State) → Run s u → Reached u → Holds g u → left g) → LeavesSteps n h left
@@ -193,13 +194,13 @@ steps-left {s} {t} run r h i zero left k = k h t run r i
 steps-left run r h i (suc n) left k = λ act. step-left r h i act _ (λ g a j. steps-left (then run act a) (on r act a) g j n left k)
 
 -- a record that was opened, and a log of zeros
-pub opened-left : (name lent : List ℕ) → Bytes lent → (left : Held → Type 0) → ((h : Held) (s : State) → Reached s → Holds h s → left h) → LeavesOpened name lent left
-opened-left name lent b left k κs a x e g p z = by (opening (nameOf name)) refl where
-  by : (v : Verdict Record) → opening (nameOf name) ≡ v → left (begin lent (x .opened))
+pub opened-left : (name lent area : List ℕ) → Bytes lent → areaSize ≤ length area → (left : Held → Type 0) → ((h : Held) (s : State) → Reached s → Holds h s → left h) → LeavesOpened name lent area left
+opened-left name lent area b l left k κs a x e g p z = by (opening (nameOf name)) refl where
+  by : (v : Verdict Record) → opening (nameOf name) ≡ v → left (begin lent area (x .opened))
   by (refused n) q =
       let zero : n ≡ 0 = rw (p, g, q) at z in
       let more : (n is 0) ≡ false = rw q at (told-opening (nameOf name)) in
       absurd (true≢false (rw zero at more))
   by (taken kept) q =
-      k _ (starts lent kept) (record { lent = lent; bytes = b; session = nameOf name; kept = kept; opened = q; run = stop })
-      (record { log = refl; lent = refl; kept = rw (p, g) (opened-ufo-again name kept q); deliveries = refl; down = refl; up = refl })
+      k _ (starts lent area kept) (record { lent = lent; bytes = b; area = area; slots = l; session = nameOf name; kept = kept; opened = q; run = stop })
+      (record { log = refl; lent = refl; kept = rw (p, g) (opened-ufo-again name kept q); area = refl; deliveries = refl; down = refl; up = refl })

@@ -51,12 +51,13 @@ use Rattle.hinurapay.proofs.keeping.hp_take.Reads as hp-take-reads
 use Rattle.hinurapay.proofs.keeping.hp_ask.Kinds as hp-ask
 use Rattle.hinurapay.proofs.keeping.hp_ask.Reads as hp-ask-reads
 
--- the server's hp_log and the bytes lent to it; the recorder's hp_record, and the messages that it has delivered; and every
--- datagram ever sent, server to recorder and back
+-- the server's hp_log and the bytes lent to it; the recorder's hp_record, its held area, and the messages that it has delivered; and
+-- every datagram ever sent, server to recorder and back
 pub record Held : Type 0 where
   pub log : FlatLog
   pub lent : List ℕ
   pub kept : FlatRecord
+  pub area : List ℕ
   pub deliveries : List (List ℕ)
   pub down : List (List ℕ)
   pub up : List (List ℕ)
@@ -66,6 +67,7 @@ pub record Holds (h : Held) (s : State) : Type 0 where
   pub log : knownLog (h .log) ≡ taken (s .log)
   pub lent : h .lent ≡ s .lent
   pub kept : knownRecord (h .kept) ≡ taken (s .kept)
+  pub area : h .area ≡ s .area
   pub deliveries : h .deliveries ≡ s .deliveries
   pub down : h .down ≡ s .down
   pub up : h .up ≡ s .up
@@ -77,14 +79,15 @@ HoldsSome Claim h = (s : State) × Holds h s × Claim s
 -- the log in the answer, a refusal or not, and the bytes lent to it as they are now
 abbrev pub withLog : Held → FlatLogged → List ℕ → Held
 withLog h x left =
-    record { log = x .log; lent = left; kept = h .kept; deliveries = h .deliveries; down = h .down; up = h .up }
+    record { log = x .log; lent = left; kept = h .kept; area = h .area; deliveries = h .deliveries; down = h .down; up = h .up }
 
--- the record in the answer, a refusal or not, and what is delivered
-abbrev pub withTaken : Held → FlatTaken → List (List ℕ) → Held
-withTaken h x delivered = record {
+-- the record in the answer, a refusal or not, the held area as it is now, and what is delivered
+abbrev pub withTaken : Held → FlatTaken → (area : List ℕ) → (delivered : List (List ℕ)) → Held
+withTaken h x area delivered = record {
   log = h .log;
   lent = h .lent;
   kept = x .after;
+  area = area;
   deliveries = h .deliveries ++ delivered;
   down = h .down;
   up = h .up;
@@ -100,6 +103,7 @@ sending h datagrams = record {
   log = h .log;
   lent = h .lent;
   kept = h .kept;
+  area = h .area;
   deliveries = h .deliveries;
   down = h .down ++ datagrams;
   up = h .up;
@@ -110,6 +114,7 @@ saying h kept datagrams = record {
   log = h .log;
   lent = h .lent;
   kept = kept;
+  area = h .area;
   deliveries = h .deliveries;
   down = h .down;
   up = h .up ++ datagrams;
@@ -183,9 +188,9 @@ LeavesStep h (rejects reason room) left = Leaves 2 hp-ufo-write-down.ps hp-ufo-w
 LeavesStep h (serves datagram room) left = Bytes datagram → datagram among h .up → Leaves 1 hp-ufo-read-up.ps hp-ufo-read-up.r hp-ufo-read-up-reads.Post
     (λ κs a. now (a .0) ≡ datagram)
     (λ κs x e. LeavesEach h room datagram (x .packet .count) 0 (λ answers. left (sending h answers)))
-LeavesStep h (takes datagram room) left = datagram among h .down → Leaves 2 hp-take.ps hp-take.r hp-take-reads.Post
-    (λ κs a. (a .0 ≡ h .kept) × (now (a .1 .0) ≡ datagram) × (length (now (a .1 .1 .0)) ≡ room))
-    (λ κs x e. LeavesVisited (take (x .bytes) (now (e .1 .1 .0))) (x .messages) 0 (λ delivered. left (withTaken h x delivered)))
+LeavesStep h (takes datagram room) left = datagram among h .down → Leaves 3 hp-take.ps hp-take.r hp-take-reads.Post
+    (λ κs a. (a .0 ≡ h .kept) × (now (a .1 .0) ≡ h .area) × (now (a .1 .1 .0) ≡ datagram) × (length (now (a .1 .1 .1 .0)) ≡ room))
+    (λ κs x e. LeavesVisited (take (x .bytes) (now (e .1 .1 .1 .0))) (x .messages) 0 (λ delivered. left (withTaken h x (now (e .1 .0)) delivered)))
 LeavesStep h (asks sheet rule elapsed room) left = Leaves 0 hp-ask.ps hp-ask.r hp-ask-reads.Post
     (λ κs a. (a .0 ≡ h .kept) × (knownSheet (a .1 .0) ≡ taken sheet) × (ruleOf (a .1 .1 .0) ≡ rule) × (a .1 .1 .1 .0 ≡ elapsed))
     (λ κs x e. LeavesAsked room x (λ said. left (saying h (x .after) said)))
@@ -196,19 +201,20 @@ abbrev pub LeavesSteps : ℕ → Held → (Held → Type 0) → Type 0
 LeavesSteps zero h left = left h
 LeavesSteps (suc n) h left = (act : Act) → LeavesStep h act (λ g. LeavesSteps n g left)
 
--- a log of zeros in lent bytes, a record, and nothing on the line
-abbrev pub begin : List ℕ → FlatRecord → Held
-begin lent kept = record {
+-- a log of zeros in lent bytes, a record with a held area, and nothing on the line
+abbrev pub begin : (lent area : List ℕ) → FlatRecord → Held
+begin lent area kept = record {
   log = record { count = 0; used = 0; ended = 0 };
   lent = lent;
   kept = kept;
+  area = area;
   deliveries = [];
   down = [];
   up = [];
 }
 
 -- the program opens a record and, unless the answer is a refusal, begins with it
-abbrev pub LeavesOpened : (name lent : List ℕ) → (Held → Type 0) → Type 0
-LeavesOpened name lent left = Leaves 1 hp-open-ufo.ps hp-open-ufo.r hp-open-ufo-reads.Post
+abbrev pub LeavesOpened : (name lent area : List ℕ) → (Held → Type 0) → Type 0
+LeavesOpened name lent area left = Leaves 1 hp-open-ufo.ps hp-open-ufo.r hp-open-ufo-reads.Post
     (λ κs a. now (a .0) ≡ name)
-    (λ κs x e. x .refusal ≡ 0 → left (begin lent (x .opened)))
+    (λ κs x e. x .refusal ≡ 0 → left (begin lent area (x .opened)))

@@ -40,6 +40,8 @@ use Rattle.hinurapay.proofs.keeping.hp_take.Kinds as hp-take
 use Rattle.hinurapay.proofs.keeping.hp_take.Reads as hp-take-reads
 use Rattle.hinurapay.proofs.keeping.hp_standing_of.Kinds as hp-standing-of
 use Rattle.hinurapay.proofs.keeping.hp_standing_of.Reads as hp-standing-of-reads
+use Rattle.hinurapay.proofs.keeping.hp_missing_range.Kinds as hp-missing-range
+use Rattle.hinurapay.proofs.keeping.hp_missing_range.Reads as hp-missing-range-reads
 use Rattle.hinurapay.proofs.keeping.hp_ask.Kinds as hp-ask
 use Rattle.hinurapay.proofs.keeping.hp_ask.Reads as hp-ask-reads
 use Rattle.hinurapay.proofs.waiting.hp_time.Kinds as hp-time
@@ -108,11 +110,14 @@ hp-open-ufo-is κs a x y s t = same-answer
 hp-open-memx-is : Answered 0 hp-open-memx.ps hp-open-memx.r hp-open-memx-reads.Post
 hp-open-memx-is κs a x y s t = same-answer
 
-hp-take-is : Determined 2 hp-take.ps hp-take.r (List ℕ) (λ κs s. now (s .1 .1 .0)) hp-take-reads.Post
+hp-take-is : Determined 3 hp-take.ps hp-take.r (List ℕ × List ℕ) (λ κs s. (now (s .1 .0), now (s .1 .1 .1 .0))) hp-take-reads.Post
 hp-take-is κs a x y s t = same-taken
 
 hp-standing-of-is : Answered 0 hp-standing-of.ps hp-standing-of.r hp-standing-of-reads.Post
 hp-standing-of-is κs a x y s t = same-answer
+
+hp-missing-range-is : Answered 0 hp-missing-range.ps hp-missing-range.r hp-missing-range-reads.Post
+hp-missing-range-is κs a x y s t = same-answer
 
 hp-ask-is : Answered 0 hp-ask.ps hp-ask.r hp-ask-reads.Post
 hp-ask-is κs a x y s t = same-answer

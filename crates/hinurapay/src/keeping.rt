@@ -2,6 +2,7 @@
 use flat_clock::FlatPatience;
 use flat_clock::FlatSheet;
 use flat_record::keeping;
+use flat_record::keeping::FlatRange;
 use flat_record::keeping::FlatRecord;
 use flat_record::keeping::FlatStanding;
 use flat_record::keeping::FlatTaken;
@@ -12,7 +13,7 @@ use flat_record::requesting::FlatAsked;
 ghost use mathlib.Core.Path.{_≡_};
 ghost use lib.ListN.{length};
 ghost use Rattle.flat_record.specs.Asking.{askAnswer};
-ghost use Rattle.flat_record.specs.Keeping.{FlatAnswered, takeVerdict, standingAnswer};
+ghost use Rattle.flat_record.specs.Keeping.{FlatAnswered, takeVerdict, standingAnswer, rangeAnswer};
 ghost use Rattle.flat_record.specs.Opening.{openUfo, openMemx};
 
 #[no_mangle]
@@ -30,10 +31,15 @@ pub extern "C" fn hp_open_memx(session: u64) -> FlatOpened
 }
 
 #[no_mangle]
-pub extern "C" fn hp_take(given: FlatRecord, datagram: &[u8], out: &mut [u8]) -> FlatTaken
-    ensures { λ r. ⌜ FlatAnswered (takeVerdict given (now (datagram .entry)) (length (now (out .entry)))) given (now (out .entry)) r (now (out .exit)) ⌝ }
+pub extern "C" fn hp_take(
+    given: FlatRecord,
+    area: &mut [u8],
+    datagram: &[u8],
+    out: &mut [u8],
+) -> FlatTaken
+    ensures { λ r. ⌜ FlatAnswered (takeVerdict given (now (area .entry)) (now (datagram .entry)) (length (now (out .entry)))) given (now (area .entry)) (now (out .entry)) r (now (area .exit)) (now (out .exit)) ⌝ }
 {
-    keeping::take(given, datagram, out)
+    keeping::take(given, area, datagram, out)
 }
 
 #[no_mangle]
@@ -41,6 +47,13 @@ pub extern "C" fn hp_standing_of(given: FlatRecord) -> FlatStanding
     ensures { λ r. ⌜ r ≡ standingAnswer given ⌝ }
 {
     keeping::standing_of(given)
+}
+
+#[no_mangle]
+pub extern "C" fn hp_missing_range(given: FlatRecord, place: u64) -> FlatRange
+    ensures { λ r. ⌜ r ≡ rangeAnswer given place ⌝ }
+{
+    keeping::missing_range(given, place)
 }
 
 #[no_mangle]

@@ -15,13 +15,13 @@ use Rattle.asking.specs.declared.Asked.{Asked}
 use Rattle.asking.specs.declared.Asked.the-variants as asks
 use Rattle.in_place.specs.Lent.{TakenLent, AskedLent}
 
-module _ {kept lies : Record} {out left : List ℕ} {r : Taken} where
-  pub taken-is-stored : (v : Verdict Taking) → TakenLent v kept out r left lies → (bytes messages : ℕ) (after : Record) → r ≡ takes.Took bytes messages after → lies ≡ after
+module _ {kept lies : Record} {area areaLeft out left : List ℕ} {r : Taken} where
+  pub taken-is-stored : (v : Verdict Taking) → TakenLent v kept area out r areaLeft left lies → (bytes messages : ℕ) (after : Record) → r ≡ takes.Took bytes messages after → lies ≡ after
   taken-is-stored (refused n) e bytes messages after q = let a = e .answered .answer in impossible cc
   taken-is-stored (taken t) e bytes messages after q = let a = e .answered .answer in let s = e .stored in cc
 
-  pub refusal-leaves-all : (v : Verdict Taking) → TakenLent v kept out r left lies → (n : ℕ) → r ≡ takes.Refused n → (lies ≡ kept) × (left ≡ out)
-  refusal-leaves-all (refused m) e n q = (e .stored, e .answered .bytes)
+  pub refusal-leaves-all : (v : Verdict Taking) → TakenLent v kept area out r areaLeft left lies → (n : ℕ) → r ≡ takes.Refused n → (lies ≡ kept) × (areaLeft ≡ area) × (left ≡ out)
+  refusal-leaves-all (refused m) e n q = (e .stored, e .answered .slots, e .answered .bytes)
   refusal-leaves-all (taken t) e n q = let a = e .answered .answer in impossible cc
 
 module _ {kept lies : Record} {r : Asked} where

@@ -12,11 +12,11 @@ ghost use Rattle.asking.specs.Asking.{asking};
 ghost use Rattle.in_place.specs.Lent.{TakenLent, AskedLent};
 
 // The same answers as `take`.
-pub fn take_lent(kept: &mut Record, datagram: &[u8], out: &mut [u8]) -> Taken
-    ensures { λ r. ⌜ TakenLent (taking (now (kept .entry)) (now (datagram .entry)) (length (now (out .entry)))) (now (kept .entry)) (now (out .entry)) r (now (out .exit)) (now (kept .exit)) ⌝ }
+pub fn take_lent(kept: &mut Record, area: &mut [u8], datagram: &[u8], out: &mut [u8]) -> Taken
+    ensures { λ r. ⌜ TakenLent (taking (now (kept .entry)) (now (area .entry)) (now (datagram .entry)) (length (now (out .entry)))) (now (kept .entry)) (now (area .entry)) (now (out .entry)) r (now (area .exit)) (now (out .exit)) (now (kept .exit)) ⌝ }
 {
     let was = *kept;
-    let taken = take(was, datagram, out);
+    let taken = take(was, area, datagram, out);
     match taken {
         Taken::Took {
             bytes: _,

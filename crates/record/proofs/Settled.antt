@@ -7,6 +7,8 @@ use Rattle.record.proofs.open.open_memx.Kinds as open-memx
 use Rattle.record.proofs.open.open_memx.Reads as open-memx-reads
 use Rattle.record.proofs.standing.standing_of.Kinds as standing-of
 use Rattle.record.proofs.standing.standing_of.Reads as standing-of-reads
+use Rattle.record.proofs.standing.missing_range.Kinds as missing-range
+use Rattle.record.proofs.standing.missing_range.Reads as missing-range-reads
 
 open-ufo-is : Answered 0 open-ufo.ps open-ufo.r open-ufo-reads.Post
 open-ufo-is κs a x y s t = same-answer
@@ -16,3 +18,6 @@ open-memx-is κs a x y s t = same-answer
 
 standing-of-is : Answered 0 standing-of.ps standing-of.r standing-of-reads.Post
 standing-of-is κs a x y s t = same-answer
+
+missing-range-is : Answered 0 missing-range.ps missing-range.r missing-range-reads.Post
+missing-range-is κs a x y s t = same-answer

@@ -7,13 +7,14 @@ use Rattle.wire.specs.Checks.{_atMost_, Verdict, refused, taken, _else_, checke
 use Rattle.names.specs.Names.{nameBytes}
 use Rattle.text.specs.Text.{blank, textThenSpaces}
 use Rattle.wire.specs.declared.kinds.Name.{Name}
+use Rattle.held.specs.Hanging.{inPlace}
 use Rattle.record.specs.declared.Session.{Session}
 use Rattle.record.specs.declared.Session.the-variants.{Ufo, Memx}
 use Rattle.record.specs.declared.Record.{Record}
 use Rattle.record.specs.declared.open.Opened.{Opened}
 use Rattle.record.specs.declared.open.Opened.the-variants as opened
 
--- nothing delivered, nothing heard, nothing asked
+-- nothing delivered, nothing heard, nothing asked, nothing held
 abbrev pub fresh : Session → Record
 fresh session = record {
   session = session;
@@ -21,6 +22,7 @@ fresh session = record {
   top = record { 0 = 0 };
   ended = false;
   asked = record { 0 = 0 };
+  held = 0;
 }
 
 -- a UFO session is a text field as in `A`
@@ -43,10 +45,14 @@ abbrev pub highest : Session → ℕ
 highest (Ufo name) = 2 ^ 32 - 2
 highest (Memx id) = 2 ^ 64 - 2
 
-unfoldable pub hangs : Record → Bool
-hangs r =
+-- all but what is held
+abbrev pub wellKept : Record → Bool
+wellKept r =
     1 atMost r .next .0
     && r .next .0 atMost r .top .0 + 1
     && r .asked .0 atMost r .next .0
     && r .top .0 atMost highest (r .session)
     && lawful (r .session)
+
+unfoldable pub hangs : Record → Bool
+hangs r = wellKept r && inPlace (r .held) (r .next .0) (r .top .0)

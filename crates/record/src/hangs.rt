@@ -1,11 +1,12 @@
 // Whether a record hangs together.
 use crate::Record;
 use crate::Session;
+use held::hanging::is_in_place;
 ghost use mathlib.Core.Path.{_≡_};
 ghost use mathlib.Core.Bool.{_&&_};
 ghost use Prim.Native.Nat.{_+_};
 ghost use Rattle.wire.specs.Checks.{_atMost_};
-ghost use Rattle.record.specs.Record.{lawful, highest, hangs};
+ghost use Rattle.record.specs.Record.{lawful, highest, wellKept, hangs};
 
 // The highest numbers that messages can have: the number after them still fits its field.
 const UFO_HIGHEST: u64 = 4294967294;
@@ -39,12 +40,21 @@ fn in_order(next: u64, top: u64, asked: u64, highest: u64) -> bool
     (next - 1 <= top) & (asked <= next) & (top <= highest)
 }
 
-pub fn hangs_together(kept: Record) -> bool
-    ensures { λ r. ⌜ r ≡ hangs kept ⌝ }
+// All but what is held.
+pub fn is_well_kept(kept: Record) -> bool
+    ensures { λ r. ⌜ r ≡ wellKept kept ⌝ }
 {
     let session = kept.session;
     let next = kept.next;
     let top = kept.top;
     let asked = kept.asked;
     in_order(next.0, top.0, asked.0, highest(session)) & is_lawful(session)
+}
+
+pub fn hangs_together(kept: Record) -> bool
+    ensures { λ r. ⌜ r ≡ hangs kept ⌝ }
+{
+    let next = kept.next;
+    let top = kept.top;
+    is_well_kept(kept) & is_in_place(kept.held, next.0, top.0)
 }

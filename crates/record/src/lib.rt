@@ -22,4 +22,6 @@ pub struct Record {
     pub ended: bool,
     // The number last asked from, 0 if none.
     pub asked: Sequence,
+    // Bit i is 1 where slot i of the held area is full.
+    pub held: u32,
 }

@@ -23,6 +23,7 @@ fn fresh(session: Session) -> Record
         top: Sequence(0),
         ended: false,
         asked: Sequence(0),
+        held: 0,
     }
 }
 

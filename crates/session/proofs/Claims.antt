@@ -1,8 +1,9 @@
--- Demand 3, over bytes: what holds of one UFO server over an empty log in lent bytes, one fresh recorder, and a line that loses,
--- repeats, delays and reorders datagrams either way and forges none. `Reached s` is any state that they can come to.
+-- Demand 3, over bytes: what holds of one UFO server over an empty log in lent bytes, one fresh recorder whose area is lent back as it was
+-- left, and a line that loses, repeats, delays and reorders datagrams either way and forges none. `Reached s` is any state that they can
+-- come to.
 -- Assumes nothing.
 use Prim.Native.Nat.{ℕ, _+_, _-_, _≤_, min}
-use mathlib.Core.Path.{_≡_}
+use mathlib.Core.Path.{_≡_, refl}
 use mathlib.Core.List.{List, [], _∷_}
 use mathlib.Core.Logic.{_⊎_}
 use mathlib.Core.Option.{some}
@@ -22,11 +23,14 @@ use Rattle.ufo_up.specs.Up.{Message, request, readUp}
 use Rattle.clock.specs.Patience.{waiting, waitOver}
 use Rattle.clock.specs.declared.sheet.Sheet.{Sheet}
 use Rattle.clock.specs.declared.patience.Patience.{Patience}
+use Rattle.held.specs.Slots.{areaSize}
+use Rattle.missing.specs.Missing.{_to_}
+use Rattle.missing.specs.declared.Range.{Range}
 use Rattle.record.specs.Standing.{complete, missing, standing}
-use Rattle.session.specs.Session.{_among_, State, logged, takes, step, Run, Reached}
+use Rattle.session.specs.Session.{_among_, enough, State, logged, takes, step, Run, Reached}
 use Rattle.session.specs.Caller.{ByContract}
 use Rattle.session.specs.InPlace.{ByContractInPlace}
-use Rattle.session.specs.Promise.{Faithful, Received, Delivered, Outcome, Due, made, Asked, Answered, Exchange, Exchanges, Under, EachUnder}
+use Rattle.session.specs.Promise.{holds, Faithful, Received, Delivered, Outcome, Due, made, Asked, Answered, Exchange, Exchanges, Under, EachUnder}
 use Rattle.session.proofs.Steps.{inv, received}
 use Rattle.session.proofs.Deliveries as deliveries
 use Rattle.session.proofs.Standing as standings
@@ -51,7 +55,7 @@ pub by-contract-in-place : {M : Type 1} (𝓤 : URA M) (H : Heap 𝓤) (A : Atom
 by-contract-in-place 𝓤 H A mem run {s} r = in-place.by-contract 𝓤 H A mem run s (inv r)
 
 -- 1. After every step the deliveries are the log's beginning: its first N - 1 messages, each once, in order, none skipped; and
--- the delivered blocks are the log's first bytes.
+-- the delivered blocks are the log's first bytes. And whatever is held was sent: it is the log's message of that number.
 pub faithful : {s : State} → Reached s → Faithful s
 faithful {s} r = deliveries.faithful s (inv r)
 
@@ -61,17 +65,18 @@ pub never-refused : {s : State}
     → Reached s
     → (datagram : List ℕ) (room : ℕ)
     → datagram among s .down
-    → 1472 ≤ room
+    → enough ≤ room
     → Received s datagram room
 never-refused {s} r datagram room m e = received s (inv r) datagram (inv r .line datagram m) room e
 
 -- 3. Once End of Session has been taken, it is the end of the server's log, and the record stands either as complete, and the
--- deliveries are the whole log; or as not complete, and what it names as missing is exactly what of the log was not delivered.
+-- deliveries are the whole log; or as not complete, and the ranges that it names as missing are exactly what of the log was not delivered and
+-- is not held.
 pub at-the-end : {s t : State}
     → Reached s
     → (datagram : List ℕ) (room total : ℕ)
     → datagram among s .down
-    → 1472 ≤ room
+    → enough ≤ room
     → ufo.read datagram ≡ taken (ufo.end total)
     → Run (step s (takes datagram room)) t
     → (t .log .ended ≡ true) × (length (logged t) ≡ total) × Outcome t
@@ -84,23 +89,25 @@ pub never-early : {s : State}
     → (s .log .ended ≡ true) × (s .deliveries ≡ logged s)
 never-early {s} r e = standings.complete-so s (inv r) e
 
--- 4. Something is missing: then a request for it, from the first number on, is due, unless one was made from there and the wait
--- is not over.
+-- 4. Something is missing: then a request for the first range of it is due, unless one was made from there and the wait is not over.
 pub is-due : {s : State}
     → Reached s
-    → (first last : ℕ)
-    → standing (s .kept) ≡ taken (missing first last)
+    → (first last : ℕ) (others : List Range)
+    → standing (s .kept) ≡ taken (missing ((first to last) ∷ others))
     → (sheet : Sheet) (rule : Patience) (elapsed : Float) (late : Bool)
     → waitOver sheet rule elapsed ≡ taken late
     → ((s .kept .asked .0 ≡ first) → ⊥) ⊎ (late ≡ true)
     → Due s first (min (last - first + 1) 65535)
 is-due {s} r = serving.due-so s (inv r)
 
--- What is due is a request for the first number that is missing.
+-- What is due is a request for exactly the first range that is missing, its count capped at 65,535.
 pub due-first : {s : State}
     → (first count : ℕ)
     → Due s first count
-    → (last : ℕ) × (standing (s .kept) ≡ taken (missing first last))
+    → (last : ℕ)
+    × (others : List Range)
+    × (standing (s .kept) ≡ taken (missing ((first to last) ∷ others)))
+    × (count ≡ min (last - first + 1) 65535)
 due-first {s} first count due = fetching.due-first s first count due
 
 -- Once it is made it stands on the line,
@@ -133,26 +140,26 @@ fetched {s} {t} r x = fetching.fetched s t (inv r) x
 pub exchange : {s : State} → Reached s → (first count : ℕ) (due : Due s first count) → (t : State) × (x : Exchange s t) × Under (due .sheet) (due .rule) (due .elapsed) x
 exchange {s} r first count due = serving.exchange s (inv r) first count due
 
--- 5. A hole is fetched in no more exchanges, one after another, than it has messages.
+-- 5. A hole, the first range that is missing, is fetched in no more exchanges, one after another, than it has messages.
 pub filled : {s t : State} {n : ℕ}
     → Reached s
-    → (first last : ℕ)
-    → standing (s .kept) ≡ taken (missing first last)
+    → (first last : ℕ) (others : List Range)
+    → standing (s .kept) ≡ taken (missing ((first to last) ∷ others))
     → Exchanges s n t
     → last + 1 - first ≤ n
     → (k : ℕ)
     → first ≤ k
     → k ≤ last
     → Delivered t k
-filled {s} {t} {n} r first last e x = fetching.filled s t (inv r) n first last e x
+filled {s} {t} {n} r first last others e x = fetching.filled s t (inv r) n first last others e x
 
 -- And it can be fetched, whatever the sheet, the rule and the time after which it is asked again, if only the wait is over by then:
 -- where the line carries each request and its answer, there are exchanges, no more than that, after which the whole of it has
 -- been delivered.
 pub fillable : {s : State}
     → Reached s
-    → (first last : ℕ)
-    → standing (s .kept) ≡ taken (missing first last)
+    → (first last : ℕ) (others : List Range)
+    → standing (s .kept) ≡ taken (missing ((first to last) ∷ others))
     → (sheet : Sheet) (rule : Patience) (elapsed : Float)
     → waitOver sheet rule elapsed ≡ taken true
     → (n : ℕ)
@@ -161,17 +168,23 @@ pub fillable : {s : State}
     × EachUnder sheet rule elapsed x
     × (n ≤ last + 1 - first)
     × ((k : ℕ) → first ≤ k → k ≤ last → Delivered t k)
-fillable {s} r first last e sheet rule elapsed over = filling.fillable sheet rule elapsed over s (inv r) first last e
+fillable {s} r first last others e sheet rule elapsed over = filling.fillable sheet rule elapsed over s (inv r) first last others e
 
 -- Every rule that has a wait comes to that: once the wait has elapsed it is over.
 pub wait-ends : (sheet : Sheet) (rule : Patience) (wait : Float) → waiting sheet rule ≡ taken (some wait) → waitOver sheet rule wait ≡ taken true
 wait-ends = waits.wait-ends
 
--- 6. And it happens, worked out byte by byte: a login is accepted, and the `A` arrives; of three messages the third comes first, the
--- first comes twice and the second is lost; the end is heard with two still missing; one exchange fetches both.
-pub happens : Reached specimen.s
-    × (standing (specimen.s .kept) ≡ taken (missing 2 3))
-    × Exchange specimen.s specimen.t
-    × (standing (specimen.t .kept) ≡ taken complete)
-    × (specimen.t .deliveries ≡ (72 ∷ 73 ∷ []) ∷ [] ∷ (79 ∷ 75 ∷ 33 ∷ []) ∷ [])
-happens = (specimen.reached, specimen.lacking .0, specimen.exchanged, specimen.all-there .0, specimen.all-there .1)
+-- 6. And it happens, worked out byte by byte, with any area of 32 slots: a login is accepted, and the `A` arrives; of three messages the third
+-- comes first and is held, the first comes twice and the second is lost; the end is heard with the second still missing; one exchange fetches
+-- it, and the third goes out behind it.
+pub happens : (area : List ℕ)
+    → areaSize ≤ length area
+    → Reached (specimen.s area)
+    × (standing (specimen.s area .kept) ≡ taken (missing ((2 to 2) ∷ [])))
+    × (holds (specimen.s area) 3 ≡ true)
+    × Exchange (specimen.s area) (specimen.t area)
+    × (standing (specimen.t area .kept) ≡ taken complete)
+    × (specimen.t area .deliveries ≡ (72 ∷ 73 ∷ []) ∷ [] ∷ (79 ∷ 75 ∷ 33 ∷ []) ∷ [])
+happens area slots =
+    let l = specimen.lacking area slots in
+    (specimen.reached area slots, l .0, l .1, specimen.exchanged area slots, specimen.all-there area .0, refl)

@@ -71,18 +71,18 @@ packet-left s room d b = by (readUp d) refl where
   by (refused n) e = refl
   by (taken ms) e = each-left s room d ms 0 _ (in-turn d b ms e) refl
 
--- what the recorder delivers
-pub delivery-left : (s : State) (i : Inv s) (d : List ℕ) → Known s d → (room : ℕ) (out : List ℕ) (r : Taken) (left : List ℕ) (kept : Record)
-    → Answered (taking (s .kept) d room) out r left → kept ≡ onceTaken (s .kept) (takenOf (taking (s .kept) d room)) → withTaken s r left kept ≡ step s (takes d room)
-delivery-left s i d known room out r left kept e k = by (taking (s .kept) d room) refl e k where
-  by : (v : Verdict Taking) → taking (s .kept) d room ≡ v → Answered v out r left → kept ≡ onceTaken (s .kept) (takenOf v) → withTaken s r left kept ≡ delivering s v
-  by (refused n) q a k = rw (a .answer, k, append-nil)
+-- what the recorder delivers, and the area that it leaves
+pub delivery-left : (s : State) (i : Inv s) (d : List ℕ) → Known s d → (room : ℕ) (out : List ℕ) (r : Taken) (area left : List ℕ) (kept : Record)
+    → Answered (taking (s .kept) (s .area) d room) (s .area) out r area left → kept ≡ onceTaken (s .kept) (takenOf (taking (s .kept) (s .area) d room)) → withTaken s r area left kept ≡ step s (takes d room)
+delivery-left s i d known room out r area left kept e k = by (taking (s .kept) (s .area) d room) refl e k where
+  by : (v : Verdict Taking) → taking (s .kept) (s .area) d room ≡ v → Answered v (s .area) out r area left → kept ≡ onceTaken (s .kept) (takenOf v) → withTaken s r area left kept ≡ delivering s v
+  by (refused n) q a k = rw (a .answer, a .slots, k, append-nil)
   by (taken t) q a k =
       let ms : List (List ℕ) = t .delivered in
       let g = told-if-taken s i d known room t q in
       let same = took-so s i d g room t q in
-      let z : length (frames ms) ≤ 1465 = rw same (fits s i d g) in
-      rw (a .answer, a .bytes, k, take-append-seam (frames ms) (drop (length (frames ms)) out), cut-frames ms (short-frames ms (omega arith)))
+      let z : length (frames ms) ≤ 47097 = rw same (fits s i d g) in
+      rw (a .answer, a .bytes, a .slots, k, take-append-seam (frames ms) (drop (length (frames ms)) out), cut-frames ms (short-frames ms (omega arith)))
 
 -- what the recorder asks
 pub request-left : (s : State) (room : ℕ) (v : Verdict Wish) (kept : Record) → kept ≡ onceAsked (s .kept) (askedOf v) → LeavesAsked room (askedOf v) (λ said. saying s kept said ≡ wishing s room v)
@@ -102,6 +102,6 @@ by-contract s i = record {
   accept = λ session next room κs a x e g p. ap (sending s) (datagram-left _ _ x _ (rw (g .0, g .1, g .2) at p));
   reject = λ reason room κs a x e g p. ap (sending s) (datagram-left _ _ x _ (rw (g .0, g .1) at p));
   serve = λ datagram room b κs a x e g p. rw (p, g) (packet-left s room datagram b);
-  take = λ datagram room m κs a x e g p. let q = rw (g .0, g .1, g .2) at p in delivery-left s i datagram (i .line datagram m) room _ x _ _ q (rw (q .answer));
+  take = λ datagram room m κs a x e g p. let q = rw (g .0, g .1, g .2, g .3) at p in delivery-left s i datagram (i .line datagram m) room _ x _ _ _ q (rw (q .answer));
   ask = λ sheet rule elapsed room κs a x e g p. rw (p, g .0, g .1, g .2, g .3) (request-left s room (asking (s .kept) sheet rule elapsed) _ refl);
 }

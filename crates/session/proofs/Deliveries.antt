@@ -1,4 +1,4 @@
--- The deliveries are the log's beginning, message by message and byte by byte.
+-- The deliveries are the log's beginning, message by message and byte by byte; and what is held is the log's.
 -- Assumes nothing.
 use Prim.Native.Nat.{ℕ, _-_, _≤_, _<_}
 use mathlib.Core.Path.{_≡_, sym, ap, _∙_}
@@ -16,7 +16,9 @@ use Rattle.blocks.proofs.Places.{frames-split}
 use Rattle.session.specs.Session.{State, logged}
 use Rattle.session.specs.Promise.{Faithful, Delivered}
 use Rattle.session.proofs.Logs.{Hung}
+use Rattle.session.proofs.Reports.{held-known}
 use Rattle.session.proofs.Invariant.{Inv}
+use Rattle.session.proofs.Steps.{hung-record}
 
 -- the lent bytes begin with the log's blocks, and these with the blocks of its first messages
 log-bytes : (l : Log) (s : List ℕ) → Hung l s → frames (messagesIn l s) ≡ take (l .used) s
@@ -40,7 +42,15 @@ module _ (s : State) (i : Inv s) where
   pub faithful : Faithful s
   faithful =
       let h = i .hold in
-      record { hung = i .hung .whole; begun = h .begun; inside = omega (arith, h .near, h .known); bytes = first-bytes (s .log) (s .lent) (i .hung) (s .kept .next .0 - 1) (s .deliveries) (h .begun) }
+      record {
+        hung = i .hung .whole;
+        kept = hung-record s i;
+        area = h .sound;
+        begun = h .begun;
+        inside = omega (arith, h .near, h .known);
+        bytes = first-bytes (s .log) (s .lent) (i .hung) (s .kept .next .0 - 1) (s .deliveries) (h .begun);
+        held = λ n e. (held-known (logged s) (s .log .ended) (s .kept) (s .area) (s .deliveries) h n e .1, h .sent n e);
+      }
 
   pub delivered : (n : ℕ) → 1 ≤ n → n < s .kept .next .0 → Delivered s n
   delivered n a b =

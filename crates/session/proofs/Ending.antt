@@ -8,7 +8,7 @@ use lib.ListN.{length}
 use Rattle.wire.specs.Checks.{taken}
 use Rattle.ufo.specs.Down as ufo
 use Rattle.hearing.specs.Hearing.{end}
-use Rattle.session.specs.Session.{State, logged, takes, step, Run}
+use Rattle.session.specs.Session.{enough, State, logged, takes, step, Run}
 use Rattle.session.specs.Promise.{Outcome}
 use Rattle.session.proofs.Invariant.{Vouches, Inv}
 use Rattle.session.proofs.Steps.{taken-so, told, good, along}
@@ -20,10 +20,10 @@ module _ (datagram : List ℕ) (total : ℕ) (e : ufo.read datagram ≡ taken (u
   reports : (s : State) (g : Vouches s datagram) → g .report ≡ end total
   reports s g = same-report datagram (g .packet) (ufo.end total) (g .report) (end total) (g .gives .reads) e (g .vouched .heard) refl
 
-  marks : (s : State) (i : Inv s) (g : Vouches s datagram) (room : ℕ) → 1472 ≤ room → step s (takes datagram room) .kept .ended ≡ true
+  marks : (s : State) (i : Inv s) (g : Vouches s datagram) (room : ℕ) → enough ≤ room → step s (takes datagram room) .kept .ended ≡ true
   marks s i g room h = rw (taken-so s i datagram g room h, reports s g) (or-true (s .kept .ended))
 
-  pub ended : (s t : State) → Inv s → (room : ℕ) → List·Memᴰ datagram (s .down) → 1472 ≤ room → Run (step s (takes datagram room)) t → (t .log .ended ≡ true) × (length (logged t) ≡ total) × Outcome t
+  pub ended : (s t : State) → Inv s → (room : ℕ) → List·Memᴰ datagram (s .down) → enough ≤ room → Run (step s (takes datagram room)) t → (t .log .ended ≡ true) × (length (logged t) ≡ total) × Outcome t
   ended s t i room m h r =
       let g = good s (takes datagram room) m i in
       let k = along r (g .inv) in

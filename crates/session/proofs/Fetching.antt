@@ -1,36 +1,39 @@
 -- One exchange delivers the message that was first missing, and so as many exchanges as a hole has messages fetch it.
 -- Assumes nothing.
-use Prim.Native.Nat.{ℕ, _+_, _-_, _≤_, _<_}
+use Prim.Native.Nat.{ℕ, _+_, _-_, _≤_, _<_, min}
 use mathlib.Core.Path.{_≡_, sym, ap, _∙_}
-use mathlib.Core.List.{List}
+use mathlib.Core.List.{List, _∷_}
 use native.Mathlib.Omega.{arith}
 use lib.ListN.{length}
 use Rattle.wire.specs.Checks.{taken}
 use Rattle.ufo.specs.Down as ufo
 use Rattle.lend.specs.Answer.{answerTo}
 use Rattle.hearing.specs.Hearing.{Report, ofUfo}
+use Rattle.missing.specs.Missing.{_to_}
+use Rattle.missing.specs.declared.Range.{Range}
 use Rattle.record.specs.Standing.{missing, standing}
 use Rattle.asking.proofs.Asks.{Requests, requests}
-use Rattle.record.proofs.Complete.{missing-if, standing-means}
-use Rattle.session.specs.Session.{State, logged, takes, asks, step}
+use Rattle.session.specs.Session.{enough, State, logged, takes, asks, step}
 use Rattle.session.specs.Promise.{Delivered, Due, made, Exchange, Exchanges, none, more}
 use Rattle.session.proofs.Reports.{firstOf, carried}
 use Rattle.session.proofs.Line.{answers, answer-gives}
 use Rattle.session.proofs.Invariant.{Vouches, Inv, Good, chain}
 use Rattle.session.proofs.Steps.{taken-so, brought, told, good, along}
 use Rattle.session.proofs.Deliveries.{delivered}
+use Rattle.session.proofs.Standing.{begins-at-next, reaches}
 
--- what is due is the first number that is missing
+-- what is due is a request for the first range that is missing
 pub due-asks : (s : State) (first count : ℕ) (due : Due s first count) → Requests (s .kept) first count (due .after)
 due-asks s first count due = requests (s .kept) (due .sheet) (due .rule) (due .elapsed) first count (due .after) (due .wish)
 
-pub due-first : (s : State) (first count : ℕ) → Due s first count → (last : ℕ) × (standing (s .kept) ≡ taken (missing first last))
+pub due-first : (s : State) (first count : ℕ) → Due s first count → (last : ℕ) × (others : List Range) × (standing (s .kept) ≡ taken (missing ((first to last) ∷ others))) × (count ≡ min (last - first + 1) 65535)
 due-first s first count due =
     let a = due-asks s first count due in
-    (s .kept .top .0, rw (a .from) (missing-if (s .kept) (a .hangs) (a .lacks)))
+    let f = begins-at-next (s .kept) (a .hangs) (a .lacks) in
+    (f .last, f .others, f .stands ∙ ap (λ (n : ℕ). taken (missing ((n to f .last) ∷ f .others))) (sym (a .from)), rw (f .are) at (a .many))
 
 -- a datagram of the line is taken where it arrives, and where it begins at or before N, what it carries has been delivered
-takes-past : (w : State) (i : Inv w) (d : List ℕ) (g : Vouches w d) (room : ℕ) → 1472 ≤ room → firstOf (g .report) ≤ w .kept .next .0
+takes-past : (w : State) (i : Inv w) (d : List ℕ) (g : Vouches w d) (room : ℕ) → enough ≤ room → firstOf (g .report) ≤ w .kept .next .0
     → firstOf (g .report) + length (carried (g .report)) ≤ step w (takes d room) .kept .next .0
 takes-past w i d g room e h = rw (taken-so w i d g room e) (brought w i d g .past h)
 
@@ -80,8 +83,8 @@ fetched s t i x =
     let e = exchanged s t i x in
     delivered t (e .0 .inv) (x .first) (omega (arith, a .from, i .hold .one)) (omega (arith, a .from, e .1))
 
-pub filled : (s t : State) → Inv s → (n first last : ℕ) → standing (s .kept) ≡ taken (missing first last) → Exchanges s n t → last + 1 - first ≤ n → (k : ℕ) → first ≤ k → k ≤ last → Delivered t k
-filled s t i n first last e x h k a b =
-    let m = standing-means (s .kept) (missing first last) e in
+pub filled : (s t : State) → Inv s → (n first last : ℕ) (others : List Range) → standing (s .kept) ≡ taken (missing ((first to last) ∷ others)) → Exchanges s n t → last + 1 - first ≤ n → (k : ℕ) → first ≤ k → k ≤ last → Delivered t k
+filled s t i n first last others e x h k a b =
+    let m = reaches (s .kept) first last others e in
     let c = counted i x in
-    delivered t (c .0 .inv) k (omega (arith, m .0, i .hold .one)) (omega (arith, m .0, c .1))
+    delivered t (c .0 .inv) k (omega (arith, m .from, i .hold .one)) (omega (arith, m .from, c .1))

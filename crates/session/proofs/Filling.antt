@@ -2,6 +2,7 @@
 -- Assumes nothing.
 use Prim.Native.Nat.{ℕ, zero, suc, _+_, _-_, _≤_, _<_}
 use mathlib.Core.Path.{_≡_, refl}
+use mathlib.Core.List.{List, _∷_}
 use mathlib.Core.Logic.{inr}
 use mathlib.Core.Bool.{Bool, true, false}
 use native.Mathlib.Omega.{arith}
@@ -12,14 +13,16 @@ use Rattle.wire.specs.Checks.{taken}
 use Rattle.clock.specs.Patience.{waitOver}
 use Rattle.clock.specs.declared.sheet.Sheet.{Sheet}
 use Rattle.clock.specs.declared.patience.Patience.{Patience}
+use Rattle.missing.specs.Missing.{_to_}
+use Rattle.missing.specs.declared.Range.{Range}
 use Rattle.record.specs.Standing.{missing, standing}
 use Rattle.asking.specs.Asking.{askedNow}
-use Rattle.record.proofs.Complete.{missing-if, standing-means}
 use Rattle.session.specs.Session.{State, stop}
 use Rattle.session.specs.Promise.{Delivered, Exchange, Exchanges, none, more, Under, EachUnder}
 use Rattle.session.proofs.Invariant.{Inv}
 use Rattle.session.proofs.Steps.{hung-record}
 use Rattle.session.proofs.Deliveries.{delivered}
+use Rattle.session.proofs.Standing.{begins-at-next, reaches}
 use Rattle.session.proofs.Fetching.{exchanged}
 use Rattle.session.proofs.Serving.{wish-so, exchange}
 
@@ -28,7 +31,8 @@ module _ (sheet : Sheet) (rule : Patience) (elapsed : Float) (over : waitOver sh
   again : (t : State) → Inv t → t .kept .next .0 ≤ t .kept .top .0 → (u : State) × (x : Exchange t u) × Under sheet rule elapsed x
   again t i l =
       let n : ℕ = t .kept .next .0 in
-      let w = wish-so t i n (t .kept .top .0) (missing-if (t .kept) (hung-record t i) l) sheet rule elapsed true over (inr refl) in
+      let f = begins-at-next (t .kept) (hung-record t i) l in
+      let w = wish-so t i n (f .last) (f .others) (f .stands) sheet rule elapsed true over (inr refl) in
       exchange t i n _ (record { sheet = sheet; rule = rule; elapsed = elapsed; after = askedNow (t .kept); wish = w })
 
   -- exchanges from s on, at most so many, after which the number to be delivered next is past the last
@@ -56,9 +60,9 @@ module _ (sheet : Sheet) (rule : Patience) (elapsed : Float) (over : waitOver sh
         let r = go (y .0) (more x (y .1) stop) (v, y .2) (g .0 .inv) (omega (arith, g .0 .later .top)) (omega (arith, g .1)) in
         record { n = r .n; t = r .t; had = r .had; under = r .under; few = omega (arith, r .few); inv = r .inv; past = r .past }
 
-  pub fillable : (s : State) → Inv s → (first last : ℕ) → standing (s .kept) ≡ taken (missing first last)
+  pub fillable : (s : State) → Inv s → (first last : ℕ) (others : List Range) → standing (s .kept) ≡ taken (missing ((first to last) ∷ others))
       → (n : ℕ) × (t : State) × (x : Exchanges s n t) × EachUnder sheet rule elapsed x × (n ≤ last + 1 - first) × ((k : ℕ) → first ≤ k → k ≤ last → Delivered t k)
-  fillable s i first last e =
-      let m = standing-means (s .kept) (missing first last) e in
-      let r = leads s last (last + 1 - first) 0 s (none stop) tt i (omega (arith, m .1)) (omega (arith, m .0)) in
-      (r .n, r .t, r .had, r .under, omega (arith, r .few), λ k a b. delivered (r .t) (r .inv) k (omega (arith, m .0, i .hold .one)) (omega (arith, r .past)))
+  fillable s i first last others e =
+      let m = reaches (s .kept) first last others e in
+      let r = leads s last (last + 1 - first) 0 s (none stop) tt i (m .top) (omega (arith, m .from)) in
+      (r .n, r .t, r .had, r .under, omega (arith, r .few), λ k a b. delivered (r .t) (r .inv) k (omega (arith, m .from, i .hold .one)) (omega (arith, r .past)))

@@ -1,15 +1,15 @@
--- A log only grows, and not once it has ended: so what was genuine stays so, and a record that told nothing false still does.
+-- A log only grows, and not once it has ended: so what was genuine stays so, and a record and an area that told nothing false still do.
 -- Assumes nothing.
 use Prim.Native.Nat.{ℕ, _-_, _≤_}
 use mathlib.Core.Path.{_≡_, sym, ap, _∙_}
-use mathlib.Core.List.{List, _++_}
+use mathlib.Core.List.{List, [], _++_}
 use mathlib.Core.Bool.{Bool, true}
 use native.Mathlib.Omega.{arith}
-use lib.ListN.{length, drop, length-append, length-drop}
+use lib.ListN.{length, drop, length-append, length-drop, List·getD-append}
 use lib.Seq.{take-append-le, drop-append-le}
 use Rattle.hearing.specs.Hearing.{Report, topOf}
 use Rattle.record.specs.declared.Record.{Record}
-use Rattle.session.proofs.Reports.{firstOf, carried, Genuine, Hold}
+use Rattle.session.proofs.Reports.{firstOf, carried, Genuine, Hold, held-known}
 
 pub record Grows (log : List (List ℕ)) (over : Bool) (log′ : List (List ℕ)) (over′ : Bool) : Type 0 where
   pub tail : List (List ℕ)
@@ -37,8 +37,8 @@ module _ (log : List (List ℕ)) (over : Bool) (log′ : List (List ℕ)) (over�
         final = λ e. still-over (topOf p) (h .final e);
       }
 
-  pub still : (r : Record) (got : List (List ℕ)) → Hold log over r got → Hold log′ over′ r got
-  still r got h =
+  pub still : (r : Record) (area : List ℕ) (got : List (List ℕ)) → Hold log over r area got → Hold log′ over′ r area got
+  still r area got h =
       let l = longer in
       record {
         begun = rw (g .same, take-append-le (r .next .0 - 1) log (g .tail) (omega (arith, h .near, h .known))) (h .begun);
@@ -47,4 +47,9 @@ module _ (log : List (List ℕ)) (over : Bool) (log′ : List (List ℕ)) (over�
         known = omega (arith, h .known);
         old = h .old;
         final = λ e. still-over (r .top .0) (h .final e);
+        placed = h .placed;
+        sound = h .sound;
+        sent = λ n e.
+            let k = held-known log over r area got h n e in
+            rw (g .same, List·getD-append log (g .tail) [] (n - 1) (omega arith)) (h .sent n e);
       }

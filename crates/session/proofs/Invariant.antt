@@ -1,10 +1,10 @@
--- What holds of every state: the log hangs together, the record and the deliveries tell nothing false of it, and it vouches for
+-- What holds of every state: the log hangs together, the record, its area and the deliveries tell nothing false of it, and it vouches for
 -- every datagram that was sent and is no answer to a login. It holds at the start.
 -- Assumes nothing.
 use Prim.Native.Nat.{ℕ, _≤_}
-use mathlib.Core.Path.{_≡_, refl}
+use mathlib.Core.Path.{_≡_, refl, sym, _∙_}
 use mathlib.Core.List.{List, [], _∷_, List·Memᴰ, List·Memᴰ·not-nil}
-use mathlib.Core.Bool.{Bool, true, false, not, false≢true}
+use mathlib.Core.Bool.{Bool, true, false, not, false≢true, true≢false}
 use native.Mathlib.Omega.{arith}
 use borrow.Author.Tests.{le-leb}
 use lib.ListN.{length}
@@ -16,9 +16,13 @@ use Rattle.wire.specs.declared.kinds.Name.{Name}
 use Rattle.wire.proofs.Checks.{all-passed}
 use Rattle.blocks.specs.Blocks.{cut}
 use Rattle.log.specs.Log.{small, hangs}
+use Rattle.held.specs.Slots.{areaSize, slotOf}
+use Rattle.held.proofs.Bitmap.{none-full}
+use Rattle.held.proofs.Hangs.{none-in-place, none-sound}
 use Rattle.record.specs.Record.{fresh, opening}
 use Rattle.record.specs.declared.Record.{Record}
 use Rattle.record.specs.declared.Session.the-variants.{Ufo}
+use Rattle.taking.proofs.Numbered.{is-held}
 use Rattle.session.specs.Session.{State, logged, begin}
 use Rattle.session.specs.Promise.{LoginAnswer}
 use Rattle.session.proofs.Reports.{Hold}
@@ -41,7 +45,7 @@ Known s d = Sent (logged s) (s .log .ended) d
 pub record Inv (s : State) : Type 0 where
   pub hung : Hung (s .log) (s .lent)
   pub named : Named (s .kept)
-  pub hold : Hold (logged s) (s .log .ended) (s .kept) (s .deliveries)
+  pub hold : Hold (logged s) (s .log .ended) (s .kept) (s .area) (s .deliveries)
   pub line : (d : List ℕ) → List·Memᴰ d (s .down) → Known s d
 
 -- nothing goes back: not N, nor T, nor the end, nor the log, nor what was sent
@@ -78,13 +82,13 @@ chain g h =
     }
 
 -- the start
-none-logged : (lent : List ℕ) (kept : Record) → logged (begin lent kept) ≡ []
+none-logged : (lent area : List ℕ) (kept : Record) → logged (begin lent area kept) ≡ []
 unfolding cut
-none-logged lent kept = refl
+none-logged lent area kept = refl
 
-empty-hangs : (lent : List ℕ) (kept : Record) → hangs (begin lent kept .log) lent ≡ true
+empty-hangs : (lent area : List ℕ) (kept : Record) → hangs (begin lent area kept .log) lent ≡ true
 unfolding hangs cut small
-empty-hangs lent kept = rw (le-leb 0 (length lent) (omega arith))
+empty-hangs lent area kept = rw (le-leb 0 (length lent) (omega arith))
 
 opened : (session : Name) (kept : Record) → opening session ≡ taken kept → Named kept × (kept ≡ fresh (Ufo session))
 opened session kept e =
@@ -94,14 +98,24 @@ opened session kept e =
     let same : kept ≡ fresh (Ufo session) = cc (p .1) in
     (rw same (record { name = session; ufo = refl; lawful = rw (p .0 .0, p .0 .1 .0) }), same)
 
-pub begins : (lent : List ℕ) (session : Name) (kept : Record) → Bytes lent → opening session ≡ taken kept → Inv (begin lent kept)
-begins lent session kept b e =
+pub begins : (lent area : List ℕ) (session : Name) (kept : Record) → Bytes lent → areaSize ≤ length area → opening session ≡ taken kept → Inv (begin lent area kept)
+begins lent area session kept b l e =
     let o = opened session kept e in
-    let h : Hold [] false (fresh (Ufo session)) [] =
-    record { begun = refl; one = omega arith; near = omega arith; known = omega arith; old = omega arith; final = λ x. absurd (false≢true x) } in
+    let h : Hold [] false (fresh (Ufo session)) area [] =
     record {
-      hung = record { whole = empty-hangs lent kept; bytes = b };
+      begun = refl;
+      one = omega arith;
+      near = omega arith;
+      known = omega arith;
+      old = omega arith;
+      final = λ x. absurd (false≢true x);
+      placed = none-in-place 1 0;
+      sound = none-sound area l;
+      sent = λ n x. absurd (true≢false (sym (is-held 0 1 n x .full) ∙ none-full (slotOf n)));
+    } in
+    record {
+      hung = record { whole = empty-hangs lent area kept; bytes = b };
       named = o .0;
-      hold = rw (none-logged lent kept, o .1) h;
+      hold = rw (none-logged lent area kept, o .1) h;
       line = λ d m. absurd (List·Memᴰ·not-nil m);
     }

@@ -19,6 +19,7 @@ use Rattle.ufo.proofs.DownLaid.{ofAccept, ofReject, laid-accept, laid-reject}
 use Rattle.ufo_write.specs.WriteDown.{acceptReply, rejectReply}
 use Rattle.ufo_write.proofs.DownReplies.{accept-reply, reject-reply}
 use Rattle.hearing.specs.Hearing.{Report, ofUfo, hear}
+use Rattle.held.specs.Hanging.{sound}
 use Rattle.record.specs.Record.{hangs}
 use Rattle.record.specs.declared.Record.{Record}
 use Rattle.record.specs.declared.Session.the-variants.{Ufo}
@@ -50,6 +51,6 @@ no-report d (rejected reason e) = rw e
 pub reports-none : {C : Type 0} (d : List ℕ) (p : ufo.Packet) (report : Report) → LoginAnswer d → ufo.read d ≡ taken p → ofUfo p ≡ taken report → C
 reports-none d p report l e f = not-both (ufo.read d into ofUfo) 16 report (no-report d l) (rw e f)
 
-pub refuses-login : (r : Record) (name : Name) → r .session ≡ Ufo name → hangs r ≡ true → (d : List ℕ) → LoginAnswer d → (room : ℕ) → taking r d room ≡ refused 16
+pub refuses-login : (r : Record) (area : List ℕ) (name : Name) → r .session ≡ Ufo name → hangs r ≡ true → sound (r .held) area ≡ true → (d : List ℕ) → LoginAnswer d → (room : ℕ) → taking r area d room ≡ refused 16
 unfolding taking hear
-refuses-login r name u h d l room = rw (h, u, no-report d l)
+refuses-login r area name u h s d l room = rw (h, s, u, no-report d l)

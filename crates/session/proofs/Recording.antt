@@ -20,6 +20,7 @@ use Rattle.record.specs.declared.Session.the-variants.{Ufo}
 use Rattle.record.proofs.Hanging.{hangs-so}
 use Rattle.hearing.proofs.Hearing.{hears-ufo}
 use Rattle.taking.proofs.Reports.{reported, reports}
+use Rattle.session.specs.Session.{enough}
 use Rattle.session.proofs.Reports.{carried, Hold, Brings, brings}
 use Rattle.session.proofs.Line.{Wrote}
 
@@ -40,28 +41,30 @@ slim (ufo.reject reason) f = omega (arith, frames-none)
 slim (ufo.messages first ms) f = omega (arith, f .size, length-laid first (length ms) (frames ms))
 slim (ufo.end total) f = omega (arith, frames-none)
 
-module _ (ms : List (List ℕ)) (over : Bool) (few : length ms ≤ 2 ^ 32 - 2) (r : Record) (got : List (List ℕ)) (n : Named r) (h : Hold ms over r got) where
+module _ (ms : List (List ℕ)) (over : Bool) (few : length ms ≤ 2 ^ 32 - 2) (r : Record) (area : List ℕ) (got : List (List ℕ)) (n : Named r) (h : Hold ms over r area got) where
   pub hung : hangs r ≡ true
-  hung = hangs-so r (record { begun = h .one; near = omega (arith, h .near); old = h .old; bound = rw (n .ufo) (omega (arith, h .known)); named = n .lawful })
+  hung =
+      hangs-so r (record { begun = h .one; near = omega (arith, h .near); old = h .old; bound = rw (n .ufo) (omega (arith, h .known)); named = n .lawful; placed = h .placed })
 
   module _ (d : List ℕ) (w : Wrote ms over d) where
     heard : hear (r .session) d ≡ taken (w .report)
     heard = rw (n .ufo, w .gives .bytes) (hears-ufo (n .name) (w .packet) (w .gives .fit) ∙ w .vouched .heard)
 
-    pub brought : Brings ms over r got (w .report) (delivered (r .next .0) (w .report))
-    brought = brings ms over r got (w .report) h (w .vouched .genuine)
+    pub brought : Brings ms over r area got (w .report)
+    brought = brings ms over r area got (w .report) hung h (w .vouched .genuine)
 
-    taken-as : (room : ℕ) → taking r d room ≡ reporting r room (w .report)
+    taken-as : (room : ℕ) → taking r area d room ≡ reporting r area room (w .report)
     unfolding taking
-    taken-as room = rw (hung, heard)
+    taken-as room = rw (hung, h .sound, heard)
 
-    pub fits : length (frames (delivered (r .next .0) (w .report))) ≤ 1465
+    -- a packet's blocks, and all that can be held
+    pub fits : length (frames (delivered r area (w .report))) ≤ 47097
     fits =
         let s : length (frames (carried (w .report))) ≤ 1465 = rw (w .vouched .heard) at (slim (w .packet) (w .gives .fit)) in
         omega (arith, brought .lean)
 
-    pub takes : (room : ℕ) → 1472 ≤ room → taking r d room ≡ taken (outcome r (w .report))
-    takes room e = taken-as room ∙ reports r room (w .report) (brought .fair) (omega (arith, fits))
+    pub takes : (room : ℕ) → enough ≤ room → taking r area d room ≡ taken (outcome r area (w .report))
+    takes room e = taken-as room ∙ reports r area room (w .report) (brought .fair) (omega (arith, fits))
 
-    pub took : (room : ℕ) (t : Taking) → taking r d room ≡ taken t → t ≡ outcome r (w .report)
-    took room t e = reported r room (w .report) t (sym (taken-as room) ∙ e) .gives
+    pub took : (room : ℕ) (t : Taking) → taking r area d room ≡ taken t → t ≡ outcome r area (w .report)
+    took room t e = reported r area room (w .report) t (sym (taken-as room) ∙ e) .gives

@@ -23,26 +23,30 @@ use Rattle.clock.specs.declared.sheet.Sheet.{Sheet}
 use Rattle.clock.specs.declared.patience.Patience.{Patience}
 use Rattle.lend.specs.Answer.{answerTo, answerReply}
 use Rattle.lend.proofs.Answering.{few-in}
+use Rattle.missing.specs.Missing.{_to_}
+use Rattle.missing.specs.declared.Range.{Range}
 use Rattle.record.specs.Standing.{missing, standing}
 use Rattle.asking.specs.Asking.{request as wanted, askedNow, requestOf, asking}
 use Rattle.asking.proofs.Asks.{asks-now}
 use Rattle.record.proofs.Complete.{standing-means}
-use Rattle.session.specs.Session.{State, logged, serves, takes, asks, sent, toMessage, toEach, toPacket, step, Run, stop, then}
+use Rattle.session.specs.Session.{enough, State, logged, serves, takes, asks, sent, toMessage, toEach, toPacket, step, Run, stop, then}
 use Rattle.session.specs.Promise.{Due, made, Asked, Answered, Exchange, Under}
 use Rattle.session.proofs.Line.{answered-so}
 use Rattle.session.proofs.Invariant.{Inv, Good}
 use Rattle.session.proofs.Steps.{hung-record, good, along}
+use Rattle.session.proofs.Standing.{reaches}
 use Rattle.session.proofs.Fetching.{due-asks}
 
--- something is missing: a request for it is due, unless one was made from there and the wait is not over
-module _ (s : State) (i : Inv s) (first last : ℕ) (e : standing (s .kept) ≡ taken (missing first last)) (sheet : Sheet) (rule : Patience) (elapsed : Float) (late : Bool)
+-- something is missing: a request for the first range of it is due, unless one was made from there and the wait is not over
+module _ (s : State) (i : Inv s) (first last : ℕ) (others : List Range) (e : standing (s .kept) ≡ taken (missing ((first to last) ∷ others))) (sheet : Sheet) (rule : Patience) (elapsed : Float) (late : Bool)
     (v : waitOver sheet rule elapsed ≡ taken late) (d : ((s .kept .asked .0 ≡ first) → ⊥) ⊎ (late ≡ true)) where
   pub wish-so : asking (s .kept) sheet rule elapsed ≡ taken (wanted first (min (last - first + 1) 65535) (askedNow (s .kept)))
   unfolding requestOf
   wish-so =
-      let m = standing-means (s .kept) (missing first last) e in
-      let w = asks-now (s .kept) sheet rule elapsed (hung-record s i) late v (m .2) (rw (m .0) at d) in
-      rw (m .0, m .1) w
+      let m = standing-means (s .kept) (missing ((first to last) ∷ others)) e in
+      let f = reaches (s .kept) first last others e .from in
+      let w = asks-now (s .kept) sheet rule elapsed (hung-record s i) late v (m .1) (rw f at d) in
+      rw (← m .0) at w
 
   pub due-so : Due s first (min (last - first + 1) 65535)
   due-so = record { sheet = sheet; rule = rule; elapsed = elapsed; after = askedNow (s .kept); wish = wish-so }
@@ -64,7 +68,7 @@ module _ (s u : State) (i : Inv s) (first count : ℕ) (due : Due s first count)
   fit =
       let a = due-asks s first count due in
       let n = few-in (s .log) (s .lent) (i .hung .whole) in
-      (omega (arith, a .from, i .hold .one), omega (arith, a .from, a .lacks, i .hold .known), omega (arith, a .many), omega (arith, a .many))
+      (omega (arith, a .from, i .hold .one), omega (arith, a .from, a .lacks, i .hold .known), a .some, omega (arith, a .many))
 
   pub asked : 1472 ≤ roomUp → Asked u first count
   unfolding sent
@@ -90,7 +94,7 @@ exchange s i first count due =
     let b : Answered u (a .datagram) first count 1472 =
     answered s u i first count due 1472 stop (a .datagram) (request first count ∷ []) 1472 (a .reads) (List·Memᴰ·head refl) (omega arith) in
     let w : State = step u (serves (a .datagram) 1472) in (
-      step w (takes (b .answer) 1472),
+      step w (takes (b .answer) enough),
       record {
         first = first;
         count = count;
@@ -104,7 +108,7 @@ exchange s i first count due =
         w = w;
         later = then stop (serves (a .datagram) 1472) (a .sent);
         arrives = b .sent;
-        roomOut = 1472;
+        roomOut = enough;
         enough = omega arith;
         left = refl;
       },

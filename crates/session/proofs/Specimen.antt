@@ -1,46 +1,56 @@
 -- A run, worked out byte by byte, so that no claim is empty. A login is accepted, which is not for the record. Three messages; the third
--- comes first, the first comes twice, the second is lost; the end is heard with two still missing; one request and its answer make the
--- record complete.
+-- comes first and is held, the first comes twice, the second is lost; the end is heard with one missing; one request and its answer deliver
+-- the second and release the third, and the record is complete. The area is any that has 32 slots.
 -- Assumes nothing.
-use Prim.Native.Nat.{ℕ}
-use mathlib.Core.Path.{_≡_, refl}
-use mathlib.Core.List.{List, [], _∷_, List·Memᴰ, List·Memᴰ·head as here, List·Memᴰ·tail as there}
+use Prim.Native.Nat.{ℕ, _≤_}
+use mathlib.Core.Path.{_≡_, refl, ap, sym, subst}
+use mathlib.Core.List.{List, [], _∷_, List·Memᴰ·head as here, List·Memᴰ·tail as there}
 use mathlib.Core.Bool.{Bool, true, false, _&&_}
 use native.Mathlib.Omega.{arith}
-use borrow.Author.Tests.{leb-true}
+use borrow.Author.Tests.{le-leb, leb-true}
 use lib.Dec.{leb}
 use lib.Ieee.{round, le}
-use lib.ListN.{replicate}
+use lib.ListN.{length, replicate}
+use lib.Seq.{sets}
 use Rattle.wire.specs.Fields.{be, bytesOf, Bytes}
-use Rattle.wire.specs.Checks.{_atMost_, taken}
+use Rattle.wire.specs.Checks.{_atMost_, refused, taken}
 use Rattle.names.specs.Names.{nameOf}
 use Rattle.text.specs.Text.{letterOrDigit, blank, textThenSpaces}
 use Rattle.wire.specs.declared.kinds.Name.{Name}
+use Rattle.wire.proofs.Width.{bytes-cons}
+use Rattle.wire.proofs.Tests.{and-left, and-right}
 use Rattle.blocks.specs.Blocks.{frames, cut, cutFull}
 use Rattle.ufo.specs.Down.{readA, readS, readE, read}
 use Rattle.ufo_write.specs.WriteDown.{acceptReply}
 use Rattle.ufo_up.specs.Up.{request, readT, readMessage, readEach, readUp}
 use Rattle.ufo_up_write.specs.WriteUp.{verdict, reply}
-use Rattle.wire.proofs.Width.{bytes-cons}
 use Rattle.clock.specs.Milliseconds.{whole}
 use Rattle.clock.specs.declared.sheet.Sheet.{Sheet}
 use Rattle.clock.specs.declared.patience.Patience.the-variants.{Never}
 use Rattle.log.specs.Log as log
 use Rattle.lend.specs.Answer.{greatest, answerTo, answerReply, endPacketReply}
-use Rattle.wire.proofs.Tests.{and-left, and-right}
+use Rattle.held.specs.Slots.{areaSize, freedFrom, heldMessage}
+use Rattle.held.specs.Hanging.{every, inPlace, sound}
+use Rattle.held.specs.Holding.{holdOne, holdAll}
+use Rattle.held.specs.Releasing.{run, heldFrom}
+use Rattle.held.proofs.Areas.{stored-message}
+use Rattle.held.proofs.Hangs.{none-sound}
+use Rattle.missing.specs.Missing.{_to_}
+use Rattle.missing.specs.Missing as lists
 use Rattle.record.specs.Record.{hangs, fresh}
-use Rattle.hearing.specs.Hearing.{hear}
-use Rattle.taking.specs.Taking.{reporting, taking}
 use Rattle.record.specs.Standing.{complete, missing, standing}
-use Rattle.asking.specs.Asking.{request as wanted, requestOf, wish, asking}
 use Rattle.record.specs.declared.Record.{Record}
 use Rattle.record.specs.declared.Session.the-variants.{Ufo}
-use Rattle.session.specs.Session.{State, logged, begin, addsMany, declares, ends, answers, accepts, serves, takes, sent, toPacket, saying, step, Run, stop, then, Reached}
-use Rattle.session.specs.Promise.{Due, made, Exchange}
+use Rattle.hearing.specs.Hearing.{hear}
+use Rattle.taking.specs.Taking.{reporting, taking}
+use Rattle.taking.proofs.Kept.{taking-sound}
+use Rattle.asking.specs.Asking.{request as wanted, requestOf, wish, asking}
+use Rattle.session.specs.Session.{enough, State, logged, begin, addsMany, declares, ends, answers, accepts, serves, takes, sent, toPacket, delivering, step, Run, stop, then, Reached}
+use Rattle.session.specs.Promise.{holds, Due, made, Exchange}
 
 -- what is unfolded to work it out
 worked-out : Unit {0}
-unfolding be bytesOf letterOrDigit blank textThenSpaces frames cut cutFull read readA readS readE readUp readEach readMessage readT reply verdict log.small log.hangs log.cutAll log.addingMany log.declaring greatest answerTo answerReply endPacketReply acceptReply hangs hear reporting taking standing sent toPacket
+unfolding be bytesOf letterOrDigit blank textThenSpaces frames cut cutFull read readA readS readE readUp readEach readMessage readT reply verdict log.small log.hangs log.cutAll log.addingMany log.declaring greatest answerTo answerReply endPacketReply acceptReply freedFrom every inPlace holdOne holdAll run heldFrom lists.ranges lists.missing hangs hear reporting taking standing sent toPacket
 worked-out = tt
 
 -- a list of numbers is one of bytes, by a test
@@ -71,12 +81,15 @@ ok = 79 ∷ 75 ∷ 33 ∷ []
 abbrev blocks : List ℕ
 blocks = 0 ∷ 2 ∷ 72 ∷ 73 ∷ 0 ∷ 0 ∷ 0 ∷ 3 ∷ 79 ∷ 75 ∷ 33 ∷ []
 
--- the datagrams: the accepted login; each message by itself, and the end; then the request, and its answer
+-- the datagrams: the accepted login; each message by itself, and the end; then the request, whose answer is the second message by itself
 abbrev welcome : List ℕ
 welcome = 65 ∷ 56 ∷ 56 ∷ 52 ∷ 49 ∷ 32 ∷ 32 ∷ 32 ∷ 32 ∷ 32 ∷ 32 ∷ 0 ∷ 0 ∷ 0 ∷ 1 ∷ []
 
 abbrev one : List ℕ
 one = 83 ∷ 0 ∷ 0 ∷ 0 ∷ 1 ∷ 0 ∷ 1 ∷ 0 ∷ 2 ∷ 72 ∷ 73 ∷ []
+
+abbrev two : List ℕ
+two = 83 ∷ 0 ∷ 0 ∷ 0 ∷ 2 ∷ 0 ∷ 1 ∷ 0 ∷ 0 ∷ []
 
 abbrev three : List ℕ
 three = 83 ∷ 0 ∷ 0 ∷ 0 ∷ 3 ∷ 0 ∷ 1 ∷ 0 ∷ 3 ∷ 79 ∷ 75 ∷ 33 ∷ []
@@ -85,117 +98,191 @@ abbrev over : List ℕ
 over = 69 ∷ 0 ∷ 0 ∷ 0 ∷ 3 ∷ []
 
 abbrev asking-two : List ℕ
-asking-two = 0 ∷ 7 ∷ 84 ∷ 0 ∷ 0 ∷ 0 ∷ 2 ∷ 0 ∷ 2 ∷ []
+asking-two = 0 ∷ 7 ∷ 84 ∷ 0 ∷ 0 ∷ 0 ∷ 2 ∷ 0 ∷ 1 ∷ []
 
-abbrev both : List ℕ
-both = 83 ∷ 0 ∷ 0 ∷ 0 ∷ 2 ∷ 0 ∷ 2 ∷ 0 ∷ 0 ∷ 0 ∷ 3 ∷ 79 ∷ 75 ∷ 33 ∷ []
+-- the third message's block in its slot, and the slot full
+abbrev stored : List ℕ → List ℕ
+stored area = sets area 4416 (0 ∷ 3 ∷ 79 ∷ 75 ∷ 33 ∷ [])
 
-s₁ : State
-s₁ = step (step (step (begin lent (fresh (Ufo session))) (accepts session 1 1472)) (takes welcome 1472)) (addsMany blocks)
-
-s₂ : State
-s₂ = step (step (step s₁ (answers 1 1 1472)) (answers 2 1 1472)) (answers 3 1 1472)
-
-s₃ : State
-s₃ = step (step (step s₂ (takes three 1472)) (takes one 1472)) (takes one 1472)
-
-s₄ : State
-s₄ = step (step s₃ declares) (ends 1472)
-
-pub s : State
-s = step s₄ (takes over 1472)
-
-pub reached : Reached s
-unfolding worked-out s₁ s₂ s₃ s₄ s
-reached = record {
-  lent = lent;
-  bytes = bytes-so lent refl;
-  session = session;
-  kept = fresh (Ufo session);
-  opened = refl;
-  run = then r₄ (takes over 1472) (there (there (there (there (here refl)))));
+-- the record
+abbrev keeping : (next top : ℕ) → Bool → (asked held : ℕ) → Record
+keeping next top ended asked held = record {
+  session = Ufo session;
+  next = record { 0 = next };
+  top = record { 0 = top };
+  ended = ended;
+  asked = record { 0 = asked };
+  held = held;
 }
-  where
-    r₁ : Run (begin lent (fresh (Ufo session))) s₁
-    r₁ = then (then (then stop (accepts session 1 1472) tt) (takes welcome 1472) (here refl)) (addsMany blocks) (bytes-so blocks refl)
 
-    r₂ : Run (begin lent (fresh (Ufo session))) s₂
-    r₂ = then (then (then r₁ (answers 1 1 1472) tt) (answers 2 1 1472) tt) (answers 3 1 1472) tt
+-- the states, once the log has its messages
+abbrev state : Bool → Record → List ℕ → List (List ℕ) → List (List ℕ) → List (List ℕ) → State
+state ended kept area deliveries down up = record {
+  log = record { count = 3; used = 11; ended = ended };
+  lent = 0 ∷ 2 ∷ 72 ∷ 73 ∷ 0 ∷ 0 ∷ 0 ∷ 3 ∷ 79 ∷ 75 ∷ 33 ∷ 0 ∷ 0 ∷ 0 ∷ 0 ∷ 0 ∷ [];
+  kept = kept;
+  area = area;
+  deliveries = deliveries;
+  down = down;
+  up = up;
+}
 
-    r₃ : Run (begin lent (fresh (Ufo session))) s₃
-    r₃ = then (then (then r₂ (takes three 1472) (there (there (there (here refl))))) (takes one 1472) (there (here refl))) (takes one 1472) (there (here refl))
+abbrev sent-all : List (List ℕ)
+sent-all = welcome ∷ one ∷ two ∷ three ∷ []
 
-    r₄ : Run (begin lent (fresh (Ufo session))) s₄
-    r₄ = then (then r₃ declares tt) (ends 1472) tt
+abbrev with-end : List (List ℕ)
+with-end = welcome ∷ one ∷ two ∷ three ∷ over ∷ []
 
-pub lacking : (standing (s .kept) ≡ taken (missing 2 3)) × (s .deliveries ≡ hi ∷ [])
-unfolding worked-out s₁ s₂ s₃ s₄ s
-lacking = (refl, refl)
+-- the end is heard, one message is delivered, and one held
+abbrev pub s : List ℕ → State
+s area = state true (keeping 2 3 true 0 8) (stored area) (hi ∷ []) with-end []
 
--- it asks for two messages from number 2 on: no answer was timed, nobody asked before, no time has passed
+-- a request goes out, its answer comes, and all is delivered
+abbrev asked : List ℕ → State
+asked area = state true (keeping 2 3 true 2 8) (stored area) (hi ∷ []) with-end (asking-two ∷ [])
+
+abbrev answered : List ℕ → State
+answered area = state true (keeping 2 3 true 2 8) (stored area) (hi ∷ []) (welcome ∷ one ∷ two ∷ three ∷ over ∷ two ∷ []) (asking-two ∷ [])
+
+abbrev pub t : List ℕ → State
+t area =
+    state true (keeping 4 3 true 2 0) (stored area) (hi ∷ [] ∷ ok ∷ []) (welcome ∷ one ∷ two ∷ three ∷ over ∷ two ∷ []) (asking-two ∷ [])
+
+-- it asks for one message from number 2 on: no answer was timed, nobody asked before, no time has passed
 abbrev untimed : Sheet
 untimed = record { mean = whole 0; spread = whole 0; timed = false }
 
-abbrev lacks : ℕ → Record
-lacks n = record { session = Ufo session; next = record { 0 = 2 }; top = record { 0 = 3 }; ended = true; asked = record { 0 = n } }
-
-lacks-so : s .kept ≡ lacks 0
-unfolding worked-out s₁ s₂ s₃ s₄ s
-lacks-so = refl
-
-wished : asking (lacks 0) untimed Never (whole 0) ≡ taken (wanted 2 2 (lacks 2))
+wished : asking (keeping 2 3 true 0 8) untimed Never (whole 0) ≡ taken (wanted 2 1 (keeping 2 3 true 2 8))
 unfolding worked-out requestOf wish asking round le
 wished = refl
 
-due : Due s 2 2
-due = record { sheet = untimed; rule = Never; elapsed = whole 0; after = lacks 2; wish = rw lacks-so wished }
-
--- the request stands on the line; the server packs both, and the record is complete
-asked : State
-asked = saying s (lacks 2) (asking-two ∷ [])
-
-written : reply (request 2 2) 1472 ≡ taken asking-two
+written : reply (request 2 1) 1472 ≡ taken asking-two
 unfolding worked-out
 written = refl
 
-asked-so : made s due 1472 ≡ asked
-unfolding sent due asked
-asked-so = rw (lacks-so, wished, written)
+module _ (area : List ℕ) where
+  abbrev due : Due (s area) 2 1
+  due = record { sheet = untimed; rule = Never; elapsed = whole 0; after = keeping 2 3 true 2 8; wish = wished }
 
-answered : State
-answered = step asked (serves asking-two 1472)
+  asked-so : made (s area) due 1472 ≡ asked area
+  unfolding sent
+  asked-so = rw (wished, written)
 
-pub t : State
-t = step answered (takes both 1472)
+  packed : answerReply (asked area .log) (asked area .lent) 2 1 1472 ≡ taken two
+  unfolding worked-out
+  packed = refl
 
-packed : answerReply (asked .log) (asked .lent) 2 2 1472 ≡ taken both
-unfolding worked-out s₁ s₂ s₃ s₄ s asked
-packed = refl
+  answered-so : step (asked area) (serves asking-two 1472) ≡ answered area
+  unfolding worked-out
+  answered-so = refl
 
-on-the-line : List·Memᴰ asking-two (asked .up) × List·Memᴰ both (answered .down)
-unfolding worked-out s₁ s₂ s₃ s₄ s asked answered
-on-the-line = (here refl, there (there (there (there (there (here refl))))))
+module _ (area : List ℕ) (slots : areaSize ≤ length area) where
+  -- what the recorder makes of each datagram
+  of-welcome : taking (fresh (Ufo session)) area welcome enough ≡ refused 16
+  unfolding worked-out
+  of-welcome = rw (none-sound area slots)
 
-pub exchanged : Exchange s t
-unfolding answered t
-exchanged = record {
-  first = 2;
-  count = 2;
-  due = due;
-  roomUp = 1472;
-  u = asked;
-  run = rw asked-so stop;
-  datagram = both;
-  roomDown = 1472;
-  answer = packed;
-  w = answered;
-  later = then stop (serves asking-two 1472) (on-the-line .0);
-  arrives = on-the-line .1;
-  roomOut = 1472;
-  enough = omega arith;
-  left = refl;
-}
+  of-three : taking (fresh (Ufo session)) area three enough ≡ taken (record { delivered = []; after = keeping 1 3 false 0 8; area = stored area })
+  unfolding worked-out
+  of-three = rw (none-sound area slots, le-leb areaSize (length area) slots)
 
-pub all-there : (standing (t .kept) ≡ taken complete) × (t .deliveries ≡ hi ∷ [] ∷ ok ∷ []) × (logged t ≡ hi ∷ [] ∷ ok ∷ [])
-unfolding worked-out s₁ s₂ s₃ s₄ s asked answered t
-all-there = (refl, refl, refl)
+  stored-sound : sound 8 (stored area) ≡ true
+  stored-sound = taking-sound (fresh (Ufo session)) area three enough _ of-three
+
+  of-one : taking (keeping 1 3 false 0 8) (stored area) one enough ≡ taken (record { delivered = hi ∷ []; after = keeping 2 3 false 0 8; area = stored area })
+  unfolding worked-out
+  of-one = rw stored-sound
+
+  of-one-again : taking (keeping 2 3 false 0 8) (stored area) one enough ≡ taken (record { delivered = []; after = keeping 2 3 false 0 8; area = stored area })
+  unfolding worked-out
+  of-one-again = rw stored-sound
+
+  of-over : taking (keeping 2 3 false 0 8) (stored area) over enough ≡ taken (record { delivered = []; after = keeping 2 3 true 0 8; area = stored area })
+  unfolding worked-out
+  of-over = rw stored-sound
+
+  of-two : taking (keeping 2 3 true 2 8) (stored area) two enough ≡ taken (record { delivered = [] ∷ ok ∷ []; after = keeping 4 3 true 2 0; area = stored area })
+  unfolding worked-out
+  of-two = rw (stored-sound, stored-message area ok 3 (omega arith) slots)
+
+  -- the steps
+  begun : State
+  begun = begin lent area (fresh (Ufo session))
+
+  greeted : State
+  greeted = step begun (accepts session 1 1472)
+
+  not-for-it : step greeted (takes welcome enough) ≡ greeted
+  unfolding begun greeted
+  not-for-it = ap (delivering greeted) of-welcome
+
+  logs-three : step (step (step (step greeted (addsMany blocks)) (answers 1 1 1472)) (answers 2 1 1472)) (answers 3 1 1472) ≡ state false (fresh (Ufo session)) area [] sent-all []
+  unfolding worked-out begun greeted
+  logs-three = refl
+
+  ends-it : step (step (state false (keeping 2 3 false 0 8) (stored area) (hi ∷ []) sent-all []) declares) (ends 1472) ≡ state true (keeping 2 3 false 0 8) (stored area) (hi ∷ []) with-end []
+  unfolding worked-out
+  ends-it = refl
+
+  -- so one comes from state to state
+  on : {u v : State} → Run begun u → u ≡ v → Run begun v
+  on r e = subst (λ (x : State). Run begun x) e r
+
+  r₁ : Run begun greeted
+  unfolding worked-out begun greeted
+  r₁ = on (then (then stop (accepts session 1 1472) tt) (takes welcome enough) (here refl)) not-for-it
+
+  r₂ : Run begun (state false (fresh (Ufo session)) area [] sent-all [])
+  r₂ =
+      on (then (then (then (then r₁ (addsMany blocks) (bytes-so blocks refl)) (answers 1 1 1472) tt) (answers 2 1 1472) tt) (answers 3 1 1472) tt) logs-three
+
+  r₃ : Run begun (state false (keeping 2 3 false 0 8) (stored area) (hi ∷ []) sent-all [])
+  r₃ =
+      let first : Run begun (state false (keeping 1 3 false 0 8) (stored area) [] sent-all []) = on (then r₂ (takes three enough) (there (there (there (here refl))))) (ap (delivering (state false (fresh (Ufo session)) area [] sent-all [])) of-three) in
+      let second : Run begun (state false (keeping 2 3 false 0 8) (stored area) (hi ∷ []) sent-all []) = on (then first (takes one enough) (there (here refl))) (ap (delivering (state false (keeping 1 3 false 0 8) (stored area) [] sent-all [])) of-one) in
+      on (then second (takes one enough) (there (here refl))) (ap (delivering (state false (keeping 2 3 false 0 8) (stored area) (hi ∷ []) sent-all [])) of-one-again)
+
+  r₄ : Run begun (state true (keeping 2 3 false 0 8) (stored area) (hi ∷ []) with-end [])
+  r₄ = on (then (then r₃ declares tt) (ends 1472) tt) ends-it
+
+  pub reached : Reached (s area)
+  unfolding worked-out begun
+  reached = record {
+    lent = lent;
+    bytes = bytes-so lent refl;
+    area = area;
+    slots = slots;
+    session = session;
+    kept = fresh (Ufo session);
+    opened = refl;
+    run =
+        on (then r₄ (takes over enough) (there (there (there (there (here refl)))))) (ap (delivering (state true (keeping 2 3 false 0 8) (stored area) (hi ∷ []) with-end [])) of-over);
+  }
+
+  -- message 2 is missing, and message 3 is held
+  pub lacking : (standing (s area .kept) ≡ taken (missing ((2 to 2) ∷ []))) × (holds (s area) 3 ≡ true) × (heldMessage (s area .area) 3 ≡ ok)
+  unfolding worked-out
+  lacking = (refl, refl, stored-message area ok 3 (omega arith) slots)
+
+  pub exchanged : Exchange (s area) (t area)
+  exchanged = record {
+    first = 2;
+    count = 1;
+    due = due area;
+    roomUp = 1472;
+    u = asked area;
+    run = rw (asked-so area) stop;
+    datagram = two;
+    roomDown = 1472;
+    answer = packed area;
+    w = answered area;
+    later = subst (λ (x : State). Run (asked area) x) (answered-so area) (then stop (serves asking-two 1472) (here refl));
+    arrives = there (there (here refl));
+    roomOut = enough;
+    enough = omega arith;
+    left = sym (ap (delivering (answered area)) of-two);
+  }
+
+pub all-there : (area : List ℕ) → (standing (t area .kept) ≡ taken complete) × (logged (t area) ≡ t area .deliveries)
+unfolding worked-out
+all-there area = (refl, refl)

@@ -21,7 +21,7 @@ use Rattle.taking.specs.Taking.{delivered, Taking, outcome, taking}
 use Rattle.asking.specs.Asking.{Wish, nothing, wait, request as wanted, askedNow}
 use Rattle.record.specs.declared.Record.{Record}
 use Rattle.asking.proofs.Asks.{requests}
-use Rattle.session.specs.Session.{State, logged, Act, adds, addsMany, declares, beats, ends, answers, accepts, rejects, serves, takes, asks, says, Allowed, sent, toMessage, toEach, toPacket, logging, sending, delivering, saying, wishing, step, Run, stop, then, Reached}
+use Rattle.session.specs.Session.{enough, State, logged, Act, adds, addsMany, declares, beats, ends, answers, accepts, rejects, serves, takes, asks, says, Allowed, sent, toMessage, toEach, toPacket, logging, sending, delivering, saying, wishing, step, Run, stop, then, Reached}
 use Rattle.session.specs.Promise.{LoginAnswer, Received, took, passed}
 use Rattle.session.proofs.Reports.{Brings}
 use Rattle.session.proofs.Growing.{longer, stays, still}
@@ -43,7 +43,7 @@ module _ (s : State) (i : Inv s) where
         inv = record {
           hung = l .hung;
           named = i .named;
-          hold = still (logged s) (s .log .ended) (logged t) (t .log .ended) (l .grows) (s .kept) (s .deliveries) (i .hold);
+          hold = still (logged s) (s .log .ended) (logged t) (t .log .ended) (l .grows) (s .kept) (s .area) (s .deliveries) (i .hold);
           line = λ d m. still-known t l d (i .line d m);
         };
         later = record { next = omega arith; top = omega arith; over = λ e. e; log = a; down = λ d m. m; up = λ d m. m };
@@ -104,22 +104,22 @@ module _ (s : State) (i : Inv s) where
   few = few-in (s .log) (s .lent) (i .hung .whole)
 
   pub hung-record : hangs (s .kept) ≡ true
-  hung-record = recording.hung (logged s) (s .log .ended) few (s .kept) (s .deliveries) (i .named) (i .hold)
+  hung-record = recording.hung (logged s) (s .log .ended) few (s .kept) (s .area) (s .deliveries) (i .named) (i .hold)
 
   module _ (d : List ℕ) (w : Vouches s d) where
-    pub brought : Brings (logged s) (s .log .ended) (s .kept) (s .deliveries) (w .report) (delivered (s .kept .next .0) (w .report))
-    brought = recording.brought (logged s) (s .log .ended) few (s .kept) (s .deliveries) (i .named) (i .hold) d w
+    pub brought : Brings (logged s) (s .log .ended) (s .kept) (s .area) (s .deliveries) (w .report)
+    brought = recording.brought (logged s) (s .log .ended) few (s .kept) (s .area) (s .deliveries) (i .named) (i .hold) d w
 
-    pub taken-so : (room : ℕ) → 1472 ≤ room → taking (s .kept) d room ≡ taken (outcome (s .kept) (w .report))
-    taken-so = recording.takes (logged s) (s .log .ended) few (s .kept) (s .deliveries) (i .named) (i .hold) d w
+    pub taken-so : (room : ℕ) → enough ≤ room → taking (s .kept) (s .area) d room ≡ taken (outcome (s .kept) (s .area) (w .report))
+    taken-so = recording.takes (logged s) (s .log .ended) few (s .kept) (s .area) (s .deliveries) (i .named) (i .hold) d w
 
-    pub took-so : (room : ℕ) (t : Taking) → taking (s .kept) d room ≡ taken t → t ≡ outcome (s .kept) (w .report)
-    took-so = recording.took (logged s) (s .log .ended) few (s .kept) (s .deliveries) (i .named) (i .hold) d w
+    pub took-so : (room : ℕ) (t : Taking) → taking (s .kept) (s .area) d room ≡ taken t → t ≡ outcome (s .kept) (s .area) (w .report)
+    took-so = recording.took (logged s) (s .log .ended) few (s .kept) (s .area) (s .deliveries) (i .named) (i .hold) d w
 
-    pub fits : length (frames (delivered (s .kept .next .0) (w .report))) ≤ 1465
-    fits = recording.fits (logged s) (s .log .ended) few (s .kept) (s .deliveries) (i .named) (i .hold) d w
+    pub fits : length (frames (delivered (s .kept) (s .area) (w .report))) ≤ 47097
+    fits = recording.fits (logged s) (s .log .ended) few (s .kept) (s .area) (s .deliveries) (i .named) (i .hold) d w
 
-    arrived : Good s (delivering s (taken (outcome (s .kept) (w .report))))
+    arrived : Good s (delivering s (taken (outcome (s .kept) (s .area) (w .report))))
     arrived =
         let n = i .named in
         record {
@@ -127,30 +127,30 @@ module _ (s : State) (i : Inv s) where
           later = record { next = omega arith; top = omega arith; over = λ e. rw e; log = omega arith; down = λ d m. m; up = λ d m. m };
         }
 
-    arrives : (room : ℕ) → Good s (delivering s (taking (s .kept) d room))
-    arrives room = by (taking (s .kept) d room) refl where
-      by : (v : Verdict Taking) → taking (s .kept) d room ≡ v → Good s (delivering s v)
+    arrives : (room : ℕ) → Good s (delivering s (taking (s .kept) (s .area) d room))
+    arrives room = by (taking (s .kept) (s .area) d room) refl where
+      by : (v : Verdict Taking) → taking (s .kept) (s .area) d room ≡ v → Good s (delivering s v)
       by (refused n) e = stays-put s i
       by (taken t) e = rw (took-so room t e) arrived
 
   module _ (d : List ℕ) where
-    pub passed-by : LoginAnswer d → (room : ℕ) → taking (s .kept) d room ≡ refused 16
-    passed-by l room = refuses-login (s .kept) (i .named .name) (i .named .ufo) hung-record d l room
+    pub passed-by : LoginAnswer d → (room : ℕ) → taking (s .kept) (s .area) d room ≡ refused 16
+    passed-by l room = refuses-login (s .kept) (s .area) (i .named .name) (i .named .ufo) hung-record (i .hold .sound) d l room
 
     -- what reports something, or is taken, is vouched for
     pub told : Known s d → (p : ufo.Packet) (report : Report) → ufo.read d ≡ taken p → ofUfo p ≡ taken report → Vouches s d
     told (tells w) p report e f = w
     told (greets l) p report e f = reports-none d p report l e f
 
-    pub told-if-taken : Known s d → (room : ℕ) (t : Taking) → taking (s .kept) d room ≡ taken t → Vouches s d
+    pub told-if-taken : Known s d → (room : ℕ) (t : Taking) → taking (s .kept) (s .area) d room ≡ taken t → Vouches s d
     told-if-taken (tells w) room t e = w
-    told-if-taken (greets l) room t e = not-both (taking (s .kept) d room) 16 t (passed-by l room) e
+    told-if-taken (greets l) room t e = not-both (taking (s .kept) (s .area) d room) 16 t (passed-by l room) e
 
-    arrives-known : Known s d → (room : ℕ) → Good s (delivering s (taking (s .kept) d room))
+    arrives-known : Known s d → (room : ℕ) → Good s (delivering s (taking (s .kept) (s .area) d room))
     arrives-known (tells w) room = arrives d w room
     arrives-known (greets l) room = rw (passed-by l room) (stays-put s i)
 
-    pub received : Known s d → (room : ℕ) → 1472 ≤ room → Received s d room
+    pub received : Known s d → (room : ℕ) → enough ≤ room → Received s d room
     received (tells w) room e = took _ (taken-so d w room e)
     received (greets l) room e = passed l (passed-by l room) (rw (passed-by l))
 
@@ -169,7 +169,17 @@ module _ (s : State) (i : Inv s) where
         inv = record {
           hung = i .hung;
           named = record { name = n .name; ufo = n .ufo; lawful = n .lawful };
-          hold = record { begun = h .begun; one = h .one; near = h .near; known = h .known; old = omega arith; final = h .final };
+          hold = record {
+            begun = h .begun;
+            one = h .one;
+            near = h .near;
+            known = h .known;
+            old = omega arith;
+            final = h .final;
+            placed = h .placed;
+            sound = h .sound;
+            sent = h .sent;
+          };
           line = i .line;
         };
         later = record { next = omega arith; top = omega arith; over = λ e. e; log = omega arith; down = λ d m. m; up = λ d m. Memᴰ·append-left ds m };
@@ -200,4 +210,4 @@ along {s} stop i = stays-put s i
 along (then {t = u} r act al) i = let g = along r i in chain g (good u act al (g .inv))
 
 pub inv : {s : State} → Reached s → Inv s
-inv r = along (r .run) (begins (r .lent) (r .session) (r .kept) (r .bytes) (r .opened)) .inv
+inv r = along (r .run) (begins (r .lent) (r .area) (r .session) (r .kept) (r .bytes) (r .slots) (r .opened)) .inv

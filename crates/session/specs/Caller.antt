@@ -70,9 +70,9 @@ Leaves n ps r ensures given left =
 -- the log, and the bytes lent to it as they are now
 abbrev pub withLog : State → Logged → List ℕ → State
 withLog s (logged.Refused n) left =
-    record { log = s .log; lent = left; kept = s .kept; deliveries = s .deliveries; down = s .down; up = s .up }
+    record { log = s .log; lent = left; kept = s .kept; area = s .area; deliveries = s .deliveries; down = s .down; up = s .up }
 withLog s (logged.After log) left =
-    record { log = log; lent = left; kept = s .kept; deliveries = s .deliveries; down = s .down; up = s .up }
+    record { log = log; lent = left; kept = s .kept; area = s .area; deliveries = s .deliveries; down = s .down; up = s .up }
 
 -- the datagram at the output's start
 abbrev pub written : Written → List ℕ → List (List ℕ)
@@ -84,10 +84,10 @@ abbrev pub handed : Taken → List ℕ → List (List ℕ)
 handed (took.Refused n) left = []
 handed (took.Took bytes messages after) left = messagesOf (cut messages (take bytes left))
 
--- these are delivered, and the record is kept
-abbrev pub withTaken : State → Taken → List ℕ → Record → State
-withTaken s r left kept =
-    record { log = s .log; lent = s .lent; kept = kept; deliveries = s .deliveries ++ handed r left; down = s .down; up = s .up }
+-- these are delivered, and the record is kept, and the area as it was left
+abbrev pub withTaken : State → Taken → List ℕ → List ℕ → Record → State
+withTaken s r area left kept =
+    record { log = s .log; lent = s .lent; kept = kept; area = area; deliveries = s .deliveries ++ handed r left; down = s .down; up = s .up }
 
 -- which record is kept: the one in the answer, if there is one
 abbrev pub onceTaken : Record → Taken → Record
@@ -166,9 +166,9 @@ pub record ByContract (s : State) : Type 0 where
   pub serve : (datagram : List ℕ) (room : ℕ) → Bytes datagram → Leaves 1 read-up.ps read-up.r read-up-reads.Post
       (λ κs a. now (a .0) ≡ datagram)
       (λ κs x e. LeavesServed s room datagram x (λ answers. sending s answers ≡ step s (serves datagram room)))
-  pub take : (datagram : List ℕ) (room : ℕ) → Allowed s (takes datagram room) → Leaves 2 take-in.ps take-in.r take-in-reads.Post
-      (λ κs a. (a .0 ≡ s .kept) × (now (a .1 .0) ≡ datagram) × (length (now (a .1 .1 .0)) ≡ room))
-      (λ κs x e. withTaken s x (now (e .1 .1 .0)) (onceTaken (s .kept) x) ≡ step s (takes datagram room))
+  pub take : (datagram : List ℕ) (room : ℕ) → Allowed s (takes datagram room) → Leaves 3 take-in.ps take-in.r take-in-reads.Post
+      (λ κs a. (a .0 ≡ s .kept) × (now (a .1 .0) ≡ s .area) × (now (a .1 .1 .0) ≡ datagram) × (length (now (a .1 .1 .1 .0)) ≡ room))
+      (λ κs x e. withTaken s x (now (e .1 .0)) (now (e .1 .1 .1 .0)) (onceTaken (s .kept) x) ≡ step s (takes datagram room))
   pub ask : (sheet : Sheet) (rule : Patience) (elapsed : Float) (room : ℕ) → Leaves 0 ask.ps ask.r ask-reads.Post
       (λ κs a. (a .0 ≡ s .kept) × (a .1 .0 ≡ sheet) × (a .1 .1 .0 ≡ rule) × (a .1 .1 .1 .0 ≡ elapsed))
       (λ κs x e. LeavesAsked room x (λ said. saying s (onceAsked (s .kept) x) said ≡ step s (asks sheet rule elapsed room)))

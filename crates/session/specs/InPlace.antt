@@ -41,8 +41,8 @@ module _ {M : Type 1} (𝓤 : URA M) (H : Heap 𝓤) (A : Atoms 𝓤) (mem : Mem
   -- the record that lies there in the end is the step's
   pub record ByContractInPlace (s : State) : Type 1 where
     pub takeLent : (datagram : List ℕ) (room : ℕ) → Allowed s (takes datagram room) → LeavesLent 𝓤 take-lent.ended (take-lent.clauses 𝓤 H A mem run)
-        (λ κs a. (now (a .0) ≡ s .kept) × (now (a .1 .0) ≡ datagram) × (length (now (a .1 .1 .0)) ≡ room))
-        (λ κs x e. withTaken s x (now (e .1 .1 .0)) (now (e .0)) ≡ step s (takes datagram room))
+        (λ κs a. (now (a .0) ≡ s .kept) × (now (a .1 .0) ≡ s .area) × (now (a .1 .1 .0) ≡ datagram) × (length (now (a .1 .1 .1 .0)) ≡ room))
+        (λ κs x e. withTaken s x (now (e .1 .0)) (now (e .1 .1 .1 .0)) (now (e .0)) ≡ step s (takes datagram room))
     pub askLent : (sheet : Sheet) (rule : Patience) (elapsed : Float) (room : ℕ) → LeavesLent 𝓤 ask-lent.ended (ask-lent.clauses 𝓤 H A mem run)
         (λ κs a. (now (a .0) ≡ s .kept) × (a .1 .0 ≡ sheet) × (a .1 .1 .0 ≡ rule) × (a .1 .1 .1 .0 ≡ elapsed))
         (λ κs x e. LeavesAsked room x (λ said. saying s (now (e .0)) said ≡ step s (asks sheet rule elapsed room)))

@@ -2,9 +2,9 @@
 -- Assumes nothing.
 use Prim.Native.Nat.{ℕ, suc, _+_, _-_, _≤_, _<_}
 use mathlib.Core.Path.{_≡_}
-use mathlib.Core.Logic.{_↔_}
+use mathlib.Core.Logic.{_↔_, _⊎_}
 use mathlib.Core.List.{List, [], _∷_}
-use mathlib.Core.Bool.{true}
+use mathlib.Core.Bool.{Bool, true, false}
 use lib.Ieee.{Float}
 use lib.ListN.{length, take, getD}
 use Rattle.wire.specs.Checks.{refused, taken}
@@ -14,20 +14,33 @@ use Rattle.ufo_up.specs.Up.{request, readUp}
 use Rattle.ufo_up_write.specs.WriteUp.{reply}
 use Rattle.clock.specs.declared.sheet.Sheet.{Sheet}
 use Rattle.clock.specs.declared.patience.Patience.{Patience}
-use Rattle.log.specs.Log.{hangs}
+use Rattle.log.specs.Log as log
 use Rattle.lend.specs.Answer.{answerReply}
+use Rattle.held.specs.Slots.{heldMessage}
+use Rattle.held.specs.Hanging.{sound}
+use Rattle.missing.specs.Missing.{isHeld}
+use Rattle.missing.specs.declared.Range.{Range}
+use Rattle.record.specs.Record as recording
 use Rattle.record.specs.Standing.{complete, missing, standing}
 use Rattle.taking.specs.Taking.{Taking, taking}
 use Rattle.asking.specs.Asking.{request as wanted, asking}
 use Rattle.record.specs.declared.Record.{Record}
-use Rattle.session.specs.Session.{_among_, State, logged, serves, takes, asks, step, Run}
+use Rattle.session.specs.Session.{_among_, enough, State, logged, serves, takes, asks, step, Run}
 
--- the log hangs together, and the deliveries are its messages up to N, and its very bytes
+-- number n is held
+abbrev pub holds : State → ℕ → Bool
+holds s n = isHeld (s .kept .held) (s .kept .next .0) n
+
+-- The log hangs together, and so do the record and its area; the deliveries are the log's messages up to N, and its very bytes; and
+-- what is held is the log's message of that number.
 pub record Faithful (s : State) : Type 0 where
-  pub hung : hangs (s .log) (s .lent) ≡ true
+  pub hung : log.hangs (s .log) (s .lent) ≡ true
+  pub kept : recording.hangs (s .kept) ≡ true
+  pub area : sound (s .kept .held) (s .area) ≡ true
   pub begun : s .deliveries ≡ take (s .kept .next .0 - 1) (logged s)
   pub inside : s .kept .next .0 ≤ length (logged s) + 1
   pub bytes : frames (s .deliveries) ≡ take (length (frames (s .deliveries))) (s .lent)
+  pub held : (n : ℕ) → holds s n ≡ true → (n ≤ length (logged s)) × (heldMessage (s .area) n ≡ getD (logged s) (n - 1) [])
 
 -- an answer to a login, an `A` or a `J`
 pub data LoginAnswer (d : List ℕ) : Type 0 where
@@ -36,9 +49,9 @@ pub data LoginAnswer (d : List ℕ) : Type 0 where
 
 -- a datagram that arrives is taken; or it answers a login, is refused as 16, and nothing changes
 pub data Received (s : State) (datagram : List ℕ) (room : ℕ) : Type 0 where
-  took : (t : Taking) → taking (s .kept) datagram room ≡ taken t → Received s datagram room
+  took : (t : Taking) → taking (s .kept) (s .area) datagram room ≡ taken t → Received s datagram room
   passed : LoginAnswer datagram
-      → taking (s .kept) datagram room ≡ refused 16
+      → taking (s .kept) (s .area) datagram room ≡ refused 16
       → step s (takes datagram room) ≡ s
       → Received s datagram room
 
@@ -48,12 +61,17 @@ pub record Delivered (s : State) (n : ℕ) : Type 0 where
   pub within : n ≤ length (s .deliveries)
   pub same : getD (s .deliveries) (n - 1) [] ≡ getD (logged s) (n - 1) []
 
--- how the record stands: complete, with the whole log; or something is missing, which is exactly what was not delivered
+-- one of the ranges names number n
+abbrev pub Names : List Range → ℕ → Type 0
+Names [] n = ⊥
+Names (r ∷ rs) n = ((r .first .0 ≤ n) × (n ≤ r .last .0)) ⊎ Names rs n
+
+-- how the record stands: complete, with the whole log; or something is missing, which is exactly what was not delivered and is not held
 pub data Outcome (s : State) : Type 0 where
   whole : standing (s .kept) ≡ taken complete → s .deliveries ≡ logged s → Outcome s
-  lacks : (first last : ℕ)
-      → standing (s .kept) ≡ taken (missing first last)
-      → ((n : ℕ) → ((first ≤ n) × (n ≤ last)) ↔ ((length (s .deliveries) < n) × (n ≤ length (logged s))))
+  lacks : (ranges : List Range)
+      → standing (s .kept) ≡ taken (missing ranges)
+      → ((n : ℕ) → Names ranges n ↔ ((length (s .deliveries) < n) × (n ≤ length (logged s)) × (holds s n ≡ false)))
       → Outcome s
 
 -- a request for these numbers is due
@@ -98,7 +116,7 @@ pub record Exchange (s t : State) : Type 0 where
   pub later : Run u w
   pub arrives : datagram among w .down
   pub roomOut : ℕ
-  pub enough : 1472 ≤ roomOut
+  pub enough : enough ≤ roomOut
   pub left : t ≡ step w (takes datagram roomOut)
 
 -- so many exchanges one after another, and whatever else may happen before, between and after them

@@ -1,11 +1,12 @@
 -- One UFO server over a log in lent bytes, one recorder, and a line that loses, repeats, delays and reorders datagrams
 -- either way but forges none. Each step is an entry of `lend` or `record`, by the definition that its contract cites.
 -- Assumes nothing.
-use Prim.Native.Nat.{ℕ}
+use Prim.Native.Nat.{ℕ, _≤_}
 use mathlib.Core.Path.{_≡_}
 use mathlib.Core.List.{List, [], _∷_, _++_, List·Memᴰ}
 use mathlib.Core.Bool.{false}
 use lib.Ieee.{Float}
+use lib.ListN.{length}
 use Rattle.wire.specs.Fields.{Bytes}
 use Rattle.wire.specs.Checks.{Verdict, refused, taken}
 use Rattle.wire.specs.Reply.{Reply}
@@ -19,6 +20,7 @@ use Rattle.clock.specs.declared.patience.Patience.{Patience}
 use Rattle.log.specs.Log.{messagesIn, Kept, adding, addingMany, declaring}
 use Rattle.lend.specs.Answer.{answerReply, heartbeatReply, endPacketReply}
 use Rattle.log.specs.declared.Log.{Log}
+use Rattle.held.specs.Slots.{areaSize}
 use Rattle.record.specs.Record.{opening}
 use Rattle.taking.specs.Taking.{Taking, taking}
 use Rattle.asking.specs.Asking.{Wish, nothing, wait, request as wanted, asking}
@@ -28,12 +30,17 @@ infix 40 _among_
 abbrev pub _among_ : {A : Type 0} → A → List A → Type 0
 x among xs = List·Memᴰ x xs
 
--- the server's log and the bytes lent to it; the recorder's record, and the messages that it has delivered; and every
--- datagram ever sent, server to recorder and back
+-- room for a packet's messages and all that can be held: 1,472 bytes and 31 slots of 1,472
+abbrev pub enough : ℕ
+enough = 47104
+
+-- the server's log and the bytes lent to it; the recorder's record, the area lent to it, always as it was left, and the messages
+-- that it has delivered; and every datagram ever sent, server to recorder and back
 pub record State : Type 0 where
   pub log : Log
   pub lent : List ℕ
   pub kept : Record
+  pub area : List ℕ
   pub deliveries : List (List ℕ)
   pub down : List (List ℕ)
   pub up : List (List ℕ)
@@ -42,12 +49,13 @@ pub record State : Type 0 where
 abbrev pub logged : State → List (List ℕ)
 logged s = messagesIn (s .log) (s .lent)
 
--- an empty log in lent bytes, a record, and nothing on the line
-abbrev pub begin : List ℕ → Record → State
-begin lent kept = record {
+-- an empty log in lent bytes, a record and its area, and nothing on the line
+abbrev pub begin : List ℕ → List ℕ → Record → State
+begin lent area kept = record {
   log = record { count = 0; used = 0; ended = false };
   lent = lent;
   kept = kept;
+  area = area;
   deliveries = [];
   down = [];
   up = [];
@@ -107,18 +115,19 @@ unfoldable pub toPacket : State → ℕ → Verdict (List Message) → List (Lis
 toPacket s room (refused n) = []
 toPacket s room (taken ms) = toEach s room ms
 
--- what a step leaves: another log and its bytes, another record and more deliveries, more on the line; a refusal leaves
--- all as it was
+-- what a step leaves: another log and its bytes, another record, its area and more deliveries, more on the line; a refusal
+-- leaves all as it was
 abbrev pub logging : State → Verdict Kept → State
 logging s (refused n) = s
 logging s (taken k) =
-    record { log = k .log; lent = k .bytes; kept = s .kept; deliveries = s .deliveries; down = s .down; up = s .up }
+    record { log = k .log; lent = k .bytes; kept = s .kept; area = s .area; deliveries = s .deliveries; down = s .down; up = s .up }
 
 abbrev pub sending : State → List (List ℕ) → State
 sending s datagrams = record {
   log = s .log;
   lent = s .lent;
   kept = s .kept;
+  area = s .area;
   deliveries = s .deliveries;
   down = s .down ++ datagrams;
   up = s .up;
@@ -130,6 +139,7 @@ delivering s (taken t) = record {
   log = s .log;
   lent = s .lent;
   kept = t .after;
+  area = t .area;
   deliveries = s .deliveries ++ t .delivered;
   down = s .down;
   up = s .up;
@@ -140,6 +150,7 @@ saying s kept datagrams = record {
   log = s .log;
   lent = s .lent;
   kept = kept;
+  area = s .area;
   deliveries = s .deliveries;
   down = s .down;
   up = s .up ++ datagrams;
@@ -161,7 +172,7 @@ step s (answers first count room) = sending s (toMessage s room (request first c
 step s (accepts session next room) = sending s (sent (acceptReply (nameBytes session) next room))
 step s (rejects reason room) = sending s (sent (rejectReply reason room))
 step s (serves datagram room) = sending s (toPacket s room (readUp datagram))
-step s (takes datagram room) = delivering s (taking (s .kept) datagram room)
+step s (takes datagram room) = delivering s (taking (s .kept) (s .area) datagram room)
 step s (asks sheet rule elapsed room) = wishing s room (asking (s .kept) sheet rule elapsed)
 step s (says datagram) = saying s (s .kept) (datagram ∷ [])
 
@@ -170,11 +181,13 @@ pub data Run (s : State) : State → Type 0 where
   stop : Run s s
   then : {t : State} → Run s t → (act : Act) → Allowed t act → Run s (step t act)
 
--- s is reached from an empty log in lent bytes and a record that was just opened for a session
+-- s is reached from an empty log in lent bytes, a record that was just opened for a session, and any area of 32 slots
 pub record Reached (s : State) : Type 0 where
   pub lent : List ℕ
   pub bytes : Bytes lent
+  pub area : List ℕ
+  pub slots : areaSize ≤ length area
   pub session : Name
   pub kept : Record
   pub opened : opening session ≡ taken kept
-  pub run : Run (begin lent kept) s
+  pub run : Run (begin lent area kept) s

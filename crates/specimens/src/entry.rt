@@ -11,7 +11,7 @@ struct Piece {
     next: usize,
 }
 
-fn fill(out: &mut [u8], b: u8, from: usize, to: usize)
+pub(crate) fn fill(out: &mut [u8], b: u8, from: usize, to: usize)
     requires { ⌜ to ≤ length (now out) ⌝ }
 {
     let mut at = from;

@@ -1,6 +1,10 @@
 // The specimen book is read from standard input and run on the desk. A line that begins with a small letter is for the desk: the
 // letter says for whom, and the line's hexadecimal digits, in capitals, are bytes, or, where the words ask for numbers, decimal ones.
 // Every line is copied, and an answer follows its own.
+ghost use mathlib.Core.Path.{_≡_};
+ghost use lib.ListN.{length};
+
+mod area;
 mod decimals;
 mod entry;
 mod hex;
@@ -17,15 +21,19 @@ mod visiting;
 mod writing;
 
 use crate::lending::Shelf;
+use crate::tape::Tape;
 use bytes::scan;
+use held::slots;
 use libc::STDIN_FILENO;
-use record::Record;
 use record::open;
 use wire::kinds::SessionId;
 
+// The room for the book.
+const BOOK: usize = 131072;
+
 // What is handed from line to line.
 struct Desk {
-    kept: Record,
+    tape: Tape,
     shelf: Shelf,
 }
 
@@ -47,7 +55,15 @@ fn answer(letter: u8, text: &[u8], d: &[u8], mark: usize) {
 }
 
 // `tcp` and `take` have the first letter in common.
-fn answers(letter: u8, text: &[u8], d: &[u8], mark: usize, desk: Desk, lent: &mut [u8]) -> Desk {
+fn answers(
+    letter: u8,
+    text: &[u8],
+    d: &[u8],
+    mark: usize,
+    desk: Desk,
+    lent: &mut [u8],
+    area: &mut [u8],
+) -> Desk {
     if text.len() < 2 {
         return desk;
     }
@@ -56,13 +72,13 @@ fn answers(letter: u8, text: &[u8], d: &[u8], mark: usize, desk: Desk, lent: &mu
         return desk;
     }
     answer(letter, text, d, mark);
-    let kept = tape::line(letter, text, d, mark, desk.kept);
+    let tape = tape::line(letter, text, d, mark, desk.tape, area);
     let shelf = lending::line(letter, text, d, mark, desk.shelf, lent);
-    Desk { kept, shelf }
+    Desk { tape, shelf }
 }
 
 // The desk after a line.
-fn question(letter: u8, text: &[u8], desk: Desk, lent: &mut [u8]) -> Desk {
+fn question(letter: u8, text: &[u8], desk: Desk, lent: &mut [u8], area: &mut [u8]) -> Desk {
     let mut room = [0u8; page::ROOM];
     if letter < b'a' {
         return desk;
@@ -73,32 +89,35 @@ fn question(letter: u8, text: &[u8], desk: Desk, lent: &mut [u8]) -> Desk {
         writing::put(text, &room, n, mark);
     }
     if n <= page::ROOM {
-        return answers(letter, text, &room[0..n], mark, desk, lent);
+        return answers(letter, text, &room[0..n], mark, desk, lent, area);
     }
     desk
 }
 
-fn line(letter: u8, text: &[u8], desk: Desk, lent: &mut [u8]) -> Desk {
+fn line(letter: u8, text: &[u8], desk: Desk, lent: &mut [u8], area: &mut [u8]) -> Desk {
     page::words(text);
-    let after = question(letter, text, desk, lent);
+    let after = question(letter, text, desk, lent, area);
     page::words(b"\n");
     after
 }
 
 fn fresh() -> Desk {
     Desk {
-        kept: open::open_memx(SessionId(0)),
+        tape: Tape {
+            kept: open::open_memx(SessionId(0)),
+            size: slots::AREA,
+        },
         shelf: lending::empty(0),
     }
 }
 
-// What is lent to the log lies in `lent`.
-fn run(book: &[u8], lent: &mut [u8]) {
+// What is lent to the log lies in `lent`, and what is lent to the record in `area`.
+fn run(book: &[u8], lent: &mut [u8], area: &mut [u8]) {
     let mut desk = fresh();
     let mut at = 0;
     while at < book.len() {
         let end = scan::find(book, at, book.len(), b'\n');
-        desk = line(book[at], &book[at..end], desk, lent);
+        desk = line(book[at], &book[at..end], desk, lent, area);
         if end == book.len() {
             return;
         }
@@ -106,9 +125,17 @@ fn run(book: &[u8], lent: &mut [u8]) {
     }
 }
 
+// The book's room, whose length its reader must know.
+fn blank_book() -> [u8; BOOK]
+    ensures { λ r. ⌜ 131072 ≡ length r ⌝ }
+{
+    [0; BOOK]
+}
+
 fn main() {
-    let mut book = io::large_buffer();
+    let mut book = blank_book();
     let mut lent = [0u8; page::ROOM];
+    let mut area = [page::UNTOUCHED; area::ROOM];
     let n = io::read_full(STDIN_FILENO, &mut book);
-    run(&book[..n], &mut lent);
+    run(&book[..n], &mut lent, &mut area);
 }

@@ -162,10 +162,10 @@ fn is_touched(out: &[u8], place: usize) -> bool {
     }
 }
 
-// Sixteen bytes of lent output from a place on are looked at.
+// All of lent output from a place on is looked at.
 pub(crate) fn untouched(out: &[u8; ROOM], place: usize) {
     let mut at = place;
-    let mut left: usize = 16;
+    let mut left = ROOM;
     while 0 < left {
         if is_touched(out, at) {
             words(b", touched");

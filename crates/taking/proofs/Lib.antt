@@ -10,5 +10,6 @@ pub mod Numbered
 pub mod Reports
 pub mod Took
 pub mod Tape
+pub mod Trying
 pub mod Twice
 mod Settled

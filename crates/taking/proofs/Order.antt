@@ -1,27 +1,33 @@
--- A datagram is taken in the scope's order: 10; whatever is refused in hearing it (the reader's numbers, 16, 11); 12; 9.
+-- A datagram is taken in the scope's order: 10, of the record and of the area; whatever is refused in hearing it (the reader's numbers, 16, 11); 12; 9.
 -- Assumes nothing.
 use Prim.Native.Nat.{ℕ}
 use mathlib.Core.Path.{_≡_, refl}
 use mathlib.Core.Bool.{true, false}
 use mathlib.Core.List.{List, [], _∷_}
 use Rattle.wire.specs.Checks.{refused, taken, _else_, checked, inOrder}
+use Rattle.wire.proofs.Tests.{by-test}
+use Rattle.held.specs.Hanging.{sound}
 use Rattle.record.specs.Record.{hangs}
 use Rattle.record.specs.declared.Record.{Record}
 use Rattle.hearing.specs.Hearing.{Report, hear}
 use Rattle.taking.specs.Taking.{outcome, reportChecks, reporting, taking}
 
-module _ (r : Record) (d : List ℕ) (room : ℕ) where
-  pub broken-is-10-first : hangs r ≡ false → taking r d room ≡ refused 10
+module _ (r : Record) (area d : List ℕ) (room : ℕ) where
+  pub broken-is-10-first : hangs r ≡ false → taking r area d room ≡ refused 10
   unfolding taking
   broken-is-10-first h = rw h
 
-  pub then-as-it-is-heard : (n : ℕ) → hangs r ≡ true → hear (r .session) d ≡ refused n → taking r d room ≡ refused n
+  pub broken-area-is-10-first : sound (r .held) area ≡ false → taking r area d room ≡ refused 10
   unfolding taking
-  then-as-it-is-heard n h e = rw (h, e)
+  broken-area-is-10-first s = by-test (hangs r) (λ h. rw (h, s)) (λ h. rw h)
 
-  pub then-by-these-checks : (report : Report) → hear (r .session) d ≡ taken report → taking r d room ≡ checked ((hangs r else 10) ∷ reportChecks r room report) (taken (outcome r report))
+  pub then-as-it-is-heard : (n : ℕ) → hangs r ≡ true → sound (r .held) area ≡ true → hear (r .session) d ≡ refused n → taking r area d room ≡ refused n
+  unfolding taking
+  then-as-it-is-heard n h s e = rw (h, s, e)
+
+  pub then-by-these-checks : (report : Report) → hear (r .session) d ≡ taken report → taking r area d room ≡ checked ((hangs r else 10) ∷ (sound (r .held) area else 10) ∷ reportChecks r area room report) (taken (outcome r area report))
   unfolding taking reporting
   then-by-these-checks report e = rw e
 
-  pub taking-in-order : (report : Report) → inOrder (10 ∷ 12 ∷ 9 ∷ []) ((hangs r else 10) ∷ reportChecks r room report) ≡ true
+  pub taking-in-order : (report : Report) → inOrder (10 ∷ 12 ∷ 9 ∷ []) ((hangs r else 10) ∷ (sound (r .held) area else 10) ∷ reportChecks r area room report) ≡ true
   taking-in-order report = refl

@@ -18,10 +18,10 @@ use Rattle.hearing.proofs.Own.{heard-ufo, heard-memx}
 use Rattle.taking.specs.Taking.{Taking, taking}
 use Rattle.taking.proofs.Took.{took}
 
-module _ (r : Record) (d : List ℕ) (room : ℕ) (t : Taking) (e : taking r d room ≡ taken t) where
+module _ (r : Record) (area d : List ℕ) (room : ℕ) (t : Taking) (e : taking r area d room ≡ taken t) where
   pub takes-S-or-E : (name : Name) → r .session ≡ Ufo name
       → ((first : ℕ) × (ms : List (List ℕ)) × (ufo.read d ≡ taken (ufo.messages first ms))) ⊎ ((total : ℕ) × (ufo.read d ≡ taken (ufo.end total)))
-  takes-S-or-E name s = let w = took r d room t e in heard-ufo name d (w .report) (ap (λ x. hear x d) (sym s) ∙ w .heard)
+  takes-S-or-E name s = let w = took r area d room t e in heard-ufo name d (w .report) (ap (λ x. hear x d) (sym s) ∙ w .heard)
 
   pub takes-its-session : (own : SessionId) → r .session ≡ Memx own → (p : memx.Packet) × (memxRead.read d ≡ taken p) × (sessionOf p ≡ own .0)
-  takes-its-session own s = let w = took r d room t e in heard-memx own d (w .report) (ap (λ x. hear x d) (sym s) ∙ w .heard)
+  takes-its-session own s = let w = took r area d room t e in heard-memx own d (w .report) (ap (λ x. hear x d) (sym s) ∙ w .heard)

@@ -1,82 +1,124 @@
--- What a report delivers, by how its numbers lie to N, and what is known of one that was taken.
+-- What a report delivers and what of it is held, by how its numbers lie to N, and what is known of one that was taken.
 -- Assumes nothing.
 use Prim.Native.Nat.{ℕ, _+_, _-_, _≤_, _<_}
 use mathlib.Core.List.{List, [], _∷_}
-use mathlib.Core.Path.{_≡_, refl}
-use mathlib.Core.Bool.{Bool, false, _&&_, and-false}
+use mathlib.Core.Path.{_≡_, refl, ap}
+use mathlib.Core.Bool.{Bool, true, false, not, _&&_, and-false}
 use native.Mathlib.Nat.{add-zero}
 use native.Mathlib.Omega.{arith}
-use borrow.Author.Tests.{le-leb, lt-leb, leb-true, not-true}
+use borrow.Author.Tests.{le-leb, lt-leb, leb-true, leb-false, not-true}
 use lib.Dec.{leb}
-use lib.ListN.{length, drop}
+use lib.ListN.{length, drop, length-append}
 use lib.Seq.{drop-nil}
-use Rattle.wire.specs.Checks.{taken}
-use Rattle.wire.proofs.Tests.{by-test, both}
+use Rattle.wire.specs.Checks.{taken, _else_, checked}
+use Rattle.wire.proofs.Tests.{by-test}
 use Rattle.wire.proofs.Checks.{all-passed, passed-all}
 use Rattle.blocks.specs.Blocks.{frames}
-use Rattle.hearing.specs.Hearing.{Report, messages, news, end, topOf, isEnd}
-use Rattle.taking.specs.Taking.{clash, contradicts, delivered, Taking, outcome, reportChecks, reporting, takenOf, Answered}
-use Rattle.taking.specs.Steps.{passing}
+use Rattle.held.specs.Slots.{freedFrom}
+use Rattle.held.specs.Holding.{Holding, holdAll}
+use Rattle.held.specs.Releasing.{run}
+use Rattle.held.proofs.Hangs.{next-free}
+use Rattle.held.proofs.Releases.{length-released, released-none}
+use Rattle.record.specs.Record.{hangs}
 use Rattle.record.specs.declared.Record.{Record}
+use Rattle.record.proofs.Hanging.{hanging}
+use Rattle.hearing.specs.Hearing.{Report, messages, news, end, topOf, isEnd}
+use Rattle.taking.specs.Taking.{clash, contradicts, own, delivered, holdingEarly, holding, told, Taking, outcome, reportChecks, reporting, takenOf, Answered}
+use Rattle.taking.specs.Steps.{passing}
 use Rattle.taking.specs.declared.Taken.{Taken}
 
 -- the first number is at most N and the last at least N
-pub among : (next first : ℕ) (ms : List (List ℕ)) → first ≤ next → next < first + length ms → delivered next (messages first ms) ≡ drop (next - first) ms
+pub among : (next first : ℕ) (ms : List (List ℕ)) → first ≤ next → next < first + length ms → own next (messages first ms) ≡ drop (next - first) ms
 among next first ms a b = rw (le-leb first next a, le-leb next (first + length ms - 1) (omega arith))
 
 -- an early packet, and a late one
-pub early : (next first : ℕ) (ms : List (List ℕ)) → next < first → delivered next (messages first ms) ≡ []
+pub early : (next first : ℕ) (ms : List (List ℕ)) → next < first → own next (messages first ms) ≡ []
 early next first ms a = rw (lt-leb first next a)
 
-pub late : (next first : ℕ) (ms : List (List ℕ)) → 1 ≤ first + length ms → first + length ms ≤ next → delivered next (messages first ms) ≡ []
+pub late : (next first : ℕ) (ms : List (List ℕ)) → 1 ≤ first + length ms → first + length ms ≤ next → own next (messages first ms) ≡ []
 late next first ms s a =
     rw (lt-leb next (first + length ms - 1) (omega arith), and-false (leb first next))
 
--- every report delivers from N on, or nothing
+-- of an early packet the messages are held; of any other, none
+pub early-held : (next first : ℕ) (ms : List (List ℕ)) → next < first → (h : Holding) → holdingEarly next h (messages first ms) ≡ holdAll next h first ms
+early-held next first ms a h = rw (lt-leb first next a)
+
+pub none-held : (next first : ℕ) (ms : List (List ℕ)) → first ≤ next → (h : Holding) → holdingEarly next h (messages first ms) ≡ h
+none-held next first ms a h = rw (le-leb first next a)
+
+-- every report has messages from N on, or comes early, or passes
 pub data Lies (next : ℕ) : Report → Type 0 where
   reaches : (first : ℕ) (ms : List (List ℕ)) → first ≤ next → next < first + length ms → Lies next (messages first ms)
-  passes : (report : Report) → delivered next report ≡ [] → Lies next report
+  ahead : (first : ℕ) (ms : List (List ℕ)) → next < first → Lies next (messages first ms)
+  passes : (report : Report) → own next report ≡ [] → ((h : Holding) → holdingEarly next h report ≡ h) → Lies next report
 
 pub lies : (next : ℕ) (report : Report) → Lies next report
-lies next (news highest) = passes (news highest) refl
-lies next (end total) = passes (end total) refl
-lies next (messages first []) =
-    passes (messages first [])
-    (by-test (leb first next && leb next (first + 0 - 1)) (λ e. rw e (drop-nil (next - first))) (λ e. rw e))
-lies next (messages first (m ∷ ms)) =
-    let last = first + length (m ∷ ms) - 1 in
-    by-test (leb first next && leb next last)
-    (λ e.
-    let b = both (leb first next) (leb next last) e in
-    let l = leb-true next last (b .1) in
-    reaches first (m ∷ ms) (leb-true first next (b .0)) (omega arith))
-    (λ e. passes (messages first (m ∷ ms)) (rw e))
+lies next (news highest) = passes (news highest) refl (λ h. refl)
+lies next (end total) = passes (end total) refl (λ h. refl)
+lies next (messages first ms) =
+    by-test (leb first next)
+    (λ a.
+    by-test (leb next (first + length ms - 1))
+    (λ b. by ms (leb-true first next a) (leb-true next (first + length ms - 1) b))
+    (λ b. passes (messages first ms) (rw (b, and-false (leb first next))) (none-held next first ms (leb-true first next a))))
+    (λ a. ahead first ms (leb-false first next a)) where
+      by : (ms : List (List ℕ)) → first ≤ next → next ≤ first + length ms - 1 → Lies next (messages first ms)
+      by [] a b =
+          passes (messages first [])
+          (by-test (leb first next && leb next (first + 0 - 1)) (λ e. rw e (drop-nil (next - first))) (λ e. rw e))
+          (none-held next first [] a)
+      by (m ∷ ms) a b = reaches first (m ∷ ms) a (omega arith)
 
--- a report that delivers nothing is passed
-module _ (r : Record) (report : Report) (e : delivered (r .next .0) report ≡ []) where
-  pub reports-none : (room : ℕ) → reporting r room report ≡ passing r (topOf report) (isEnd report)
-  unfolding reporting passing frames
-  reports-none room = rw (e, le-leb 0 room (omega arith), add-zero (r .next .0))
+-- how many go out: a report's own, and what is released behind them
+pub delivers-many : (r : Record) (area : List ℕ) (report : Report)
+    → (let k = length (own (r .next .0) report) in
+    length (delivered r area report) ≡ k + run 31 (freedFrom k (r .held) (r .next .0)) (r .next .0 + k))
+delivers-many r area report =
+    let ms : List (List ℕ) = own (r .next .0) report in
+    rw length-append (ap (λ (n : ℕ). length ms + n) (length-released (freedFrom (length ms) (r .held) (r .next .0)) area (r .next .0 + length ms)))
+
+-- where none of a report's own messages goes out, nothing does: N's own slot is free
+module _ (r : Record) (area : List ℕ) (report : Report) (h : hangs r ≡ true) (e : own (r .next .0) report ≡ []) where
+  pub delivers-none : delivered r area report ≡ []
+  unfolding freedFrom
+  delivers-none = rw (e, add-zero (r .next .0)) (released-none (r .held) area (r .next .0) (next-free (r .held) (r .next .0) (r .top .0) (hanging r h .placed)))
+
+  pub holds-early : holding r area report ≡ holdingEarly (r .next .0) (record { held = r .held; area = area }) report
+  unfolding freedFrom
+  holds-early = rw delivers-none
+
+  -- and a report of which nothing is held either is passed
+  pub reports-none : (room : ℕ) → ((h : Holding) → holdingEarly (r .next .0) h report ≡ h) → reporting r area room report ≡ passing r area (topOf report) (isEnd report)
+  unfolding reporting passing frames freedFrom
+  reports-none room k = rw (delivers-none, k (record { held = r .held; area = area }), le-leb 0 room (omega arith), add-zero (r .next .0))
+
+-- an early one is held
+pub reports-early : (r : Record) (area : List ℕ) (room first : ℕ) (ms : List (List ℕ)) → hangs r ≡ true → r .next .0 < first
+    → (let h = holdAll (r .next .0) (record { held = r .held; area = area }) first ms in
+    reporting r area room (messages first ms) ≡ checked ((not (clash r (first + length ms - 1) false) else 12) ∷ []) (taken (record { delivered = []; after = told r (r .next .0) (h .held) (first + length ms - 1) false; area = h .area })))
+unfolding reporting frames freedFrom
+reports-early r area room first ms h l =
+    rw (delivers-none r area (messages first ms) h (early (r .next .0) first ms l), lt-leb first (r .next .0) l, le-leb 0 room (omega arith), add-zero (r .next .0))
 
 -- and leaves the lent output
-pub leaves : (r : Record) (top : ℕ) (final : Bool) (out : List ℕ) (a : Taken) → a ≡ takenOf (passing r top final) → Answered (passing r top final) out a out
+pub leaves : (r : Record) (area : List ℕ) (top : ℕ) (final : Bool) (out : List ℕ) (a : Taken) → a ≡ takenOf (passing r area top final) → Answered (passing r area top final) area out a area out
 unfolding passing frames
-leaves r top final out a e =
-    by-test (clash r top final) (λ q. record { answer = e; bytes = rw q }) (λ q. record { answer = e; bytes = rw q })
+leaves r area top final out a e =
+    by-test (clash r top final) (λ q. record { answer = e; bytes = rw q; slots = rw q }) (λ q. record { answer = e; bytes = rw q; slots = rw q })
 
 -- what is known of a report that was taken
-pub record Reported (r : Record) (room : ℕ) (report : Report) (t : Taking) : Type 0 where
+pub record Reported (r : Record) (area : List ℕ) (room : ℕ) (report : Report) (t : Taking) : Type 0 where
   pub agrees : contradicts r report ≡ false
-  pub fits : length (frames (delivered (r .next .0) report)) ≤ room
-  pub gives : t ≡ outcome r report
+  pub fits : length (frames (delivered r area report)) ≤ room
+  pub gives : t ≡ outcome r area report
 
-pub reported : (r : Record) (room : ℕ) (report : Report) (t : Taking) → reporting r room report ≡ taken t → Reported r room report t
+pub reported : (r : Record) (area : List ℕ) (room : ℕ) (report : Report) (t : Taking) → reporting r area room report ≡ taken t → Reported r area room report t
 unfolding reporting
-reported r room report t e =
-    let p = all-passed (reportChecks r room report) (taken (outcome r report)) t e in
+reported r area room report t e =
+    let p = all-passed (reportChecks r area room report) (taken (outcome r area report)) t e in
     record { agrees = not-true (contradicts r report) (p .0 .0); fits = leb-true _ _ (p .0 .1 .0); gives = cc (p .1) }
 
 -- and what is enough for it
-pub reports : (r : Record) (room : ℕ) (report : Report) → contradicts r report ≡ false → length (frames (delivered (r .next .0) report)) ≤ room → reporting r room report ≡ taken (outcome r report)
+pub reports : (r : Record) (area : List ℕ) (room : ℕ) (report : Report) → contradicts r report ≡ false → length (frames (delivered r area report)) ≤ room → reporting r area room report ≡ taken (outcome r area report)
 unfolding reporting
-reports r room report a b = passed-all (reportChecks r room report) (taken (outcome r report)) (rw a refl, (le-leb _ _ b, tt))
+reports r area room report a b = passed-all (reportChecks r area room report) (taken (outcome r area report)) (rw a refl, (le-leb _ _ b, tt))

@@ -10,21 +10,19 @@ use borrow.Author.Tests.{leb-true}
 use lib.Dec.{leb}
 use Rattle.wire.specs.Checks.{taken}
 use Rattle.wire.proofs.Tests.{by-test, either}
-use Rattle.record.specs.Record.{fresh, lawful, hangs}
+use Rattle.record.specs.Record.{fresh, lawful}
 use Rattle.hearing.specs.Hearing.{Report, messages, news, end, hear, topOf, isEnd}
 use Rattle.record.specs.Standing.{ongoing, complete, standing}
 use Rattle.taking.specs.Taking.{Taking, taking}
 use Rattle.record.specs.declared.Record.{Record}
 use Rattle.record.specs.declared.Session.{Session}
-use Rattle.record.specs.declared.Session.the-variants.{Ufo, Memx}
-use Rattle.record.proofs.Complete.{standing-means}
+use Rattle.record.proofs.Complete.{ongoing-if, standing-means}
 use Rattle.taking.proofs.Took.{Took, took}
+use Rattle.taking.proofs.Kept.{fresh-hangs}
 
 -- A record that has heard nothing is ongoing.
 pub empty-tape : (s : Session) → lawful s ≡ true → standing (fresh s) ≡ taken ongoing
-unfolding hangs standing
-empty-tape (Ufo name) e = rw e
-empty-tape (Memx id) e = refl
+empty-tape s e = ongoing-if (fresh s) (fresh-hangs s e) refl (omega arith)
 
 -- A complete record has heard an end.
 pub end-was-heard : (r : Record) → standing r ≡ taken complete → r .ended ≡ true
@@ -36,10 +34,10 @@ an-end (news highest) e = absurd (false≢true e)
 an-end (end total) e = (total, refl)
 
 -- Nothing that is taken marks a record ended but an end packet of its own session.
-pub only-an-end : (r : Record) (d : List ℕ) (room : ℕ) (t : Taking) → taking r d room ≡ taken t → t .after .ended ≡ true → (r .ended ≡ true) ⊎ ((total : ℕ) × (hear (r .session) d ≡ taken (end total)))
-only-an-end r d room t e h = by (either (r .ended) (isEnd (w .report)) ended) where
-  w : Took r d room t
-  w = took r d room t e
+pub only-an-end : (r : Record) (area d : List ℕ) (room : ℕ) (t : Taking) → taking r area d room ≡ taken t → t .after .ended ≡ true → (r .ended ≡ true) ⊎ ((total : ℕ) × (hear (r .session) d ≡ taken (end total)))
+only-an-end r area d room t e h = by (either (r .ended) (isEnd (w .report)) ended) where
+  w : Took r area d room t
+  w = took r area d room t e
 
   ended : r .ended || isEnd (w .report) ≡ true
   ended = rw (w .reported .gives) at h
@@ -53,9 +51,9 @@ past-end : (ended within other : Bool) → ended ≡ true → within ≡ false �
 past-end ended within other h q a = let c : true ≡ false = rw (h, q) at a in true≢false c
 
 -- Once the end was heard the total stands: nothing that is taken changes it.
-pub end-stands : (r : Record) (d : List ℕ) (room : ℕ) (t : Taking) → taking r d room ≡ taken t → r .ended ≡ true → t .after .top .0 ≡ r .top .0
-end-stands r d room t e h =
-    let w = took r d room t e in
+pub end-stands : (r : Record) (area d : List ℕ) (room : ℕ) (t : Taking) → taking r area d room ≡ taken t → r .ended ≡ true → t .after .top .0 ≡ r .top .0
+end-stands r area d room t e h =
+    let w = took r area d room t e in
     let top = topOf (w .report) in
     by-test (leb top (r .top .0))
     (λ q. let l = leb-true top (r .top .0) q in rw (w .reported .gives) (omega arith))

@@ -1,14 +1,23 @@
-// Delivering: the blocks of a packet after the first k, as they stand, from the output's start.
+// Delivering: the blocks of a packet after the first k, as they stand, and behind them those that are held and next.
 use blocks::Place;
+use held::releasing::Released;
+use held::releasing::release;
 use wire::output;
 use wire::output::Written;
 use wire::refusal;
 ghost use lib.ListN.{length};
 ghost use Rattle.wire.specs.Reply.{Settled};
-ghost use Rattle.taking.specs.Steps.{handed};
+ghost use Rattle.taking.specs.Steps.{handedOwn, handed, Handed};
 
-pub(crate) fn deliver(datagram: &[u8], place: usize, k: u64, out: &mut [u8]) -> Written
-    ensures { λ r. ⌜ Settled (handed k (now (datagram .entry)) place (length (now (out .entry)))) (now (out .entry)) r (now (out .exit)) ⌝ }
+pub(crate) enum Delivered {
+    Refused(u8),
+    // How many of them were held.
+    Bytes { bytes: usize, released: u32 },
+}
+
+// Where nothing is held.
+pub(crate) fn deliver_own(datagram: &[u8], place: usize, k: u64, out: &mut [u8]) -> Written
+    ensures { λ r. ⌜ Settled (handedOwn k (now (datagram .entry)) place (length (now (out .entry)))) (now (out .entry)) r (now (out .exit)) ⌝ }
 {
     let start = blocks::skip(datagram, place, k);
     match start {
@@ -20,6 +29,37 @@ pub(crate) fn deliver(datagram: &[u8], place: usize, k: u64, out: &mut [u8]) -> 
             }
             output::copy(out, 0, datagram, from, bytes);
             Written::Bytes(bytes)
+        }
+    }
+}
+
+pub(crate) fn deliver(
+    datagram: &[u8],
+    place: usize,
+    k: u64,
+    held: u32,
+    number: u64,
+    area: &[u8],
+    out: &mut [u8],
+) -> Delivered
+    ensures { λ r. ⌜ Handed (handed k (now (datagram .entry)) place held (now (area .entry)) number (length (now (out .entry)))) (now (out .entry)) r (now (out .exit)) ⌝ }
+{
+    let start = blocks::skip(datagram, place, k);
+    match start {
+        Place::Refused(number) => Delivered::Refused(number),
+        Place::At(from) => {
+            let own = datagram.len() - from;
+            let given = release(held, number, area, out, own);
+            match given {
+                Released::Refused(number) => Delivered::Refused(number),
+                Released::Messages { messages, bytes } => {
+                    output::copy(out, 0, datagram, from, own);
+                    Delivered::Bytes {
+                        bytes: own + bytes,
+                        released: messages,
+                    }
+                }
+            }
         }
     }
 }

@@ -1,19 +1,29 @@
 // Taking a datagram into a session record.
 mod deliver;
+mod early;
 mod tell;
 
+use crate::deliver::Delivered;
 use crate::deliver::deliver;
+use crate::deliver::deliver_own;
+use crate::early::hold_early;
 use crate::tell::contradicts;
 use crate::tell::tell;
 use hearing::Heard;
 use hearing::hear;
+use held::hanging::is_whole;
+use held::slots::free_from;
 use record::Record;
-use record::hangs::hangs_together;
+use record::hangs::is_well_kept;
 use wire::output::Written;
 use wire::refusal;
 ghost use mathlib.Core.Path.{_≡_};
+ghost use mathlib.Core.List.{[]};
+ghost use mathlib.Core.Bool.{true};
 ghost use Prim.Native.Nat.{_+_, _≤_, _<_};
 ghost use lib.ListN.{length};
+ghost use Rattle.held.specs.Hanging.{sound};
+ghost use Rattle.record.specs.Record.{hangs};
 ghost use Rattle.hearing.specs.Hearing.{messages, Fills, blocksFrom};
 ghost use Rattle.taking.specs.Taking.{reporting, taking, takenOf, Answered};
 ghost use Rattle.taking.specs.Steps.{passing};
@@ -27,9 +37,9 @@ pub enum Taken {
     },
 }
 
-// A packet that delivers nothing tells a top, and perhaps the end.
+// A packet that delivers nothing and holds nothing tells a top, and perhaps the end.
 fn pass(kept: Record, top: u64, end: bool) -> Taken
-    ensures { λ r. ⌜ r ≡ takenOf (passing kept top end) ⌝ }
+    ensures { λ r. ⌜ r ≡ takenOf (passing kept [] top end) ⌝ }
 {
     if contradicts(kept, top, end) {
         return Taken::Refused(refusal::CONTRADICTION);
@@ -38,33 +48,34 @@ fn pass(kept: Record, top: u64, end: bool) -> Taken
     Taken::Took {
         bytes: 0,
         messages: 0,
-        after: tell(kept, next.0, top, end),
+        after: tell(kept, next.0, kept.held, top, end),
     }
 }
 
-// The record's next message is among the packet's: the blocks from there on are delivered.
-fn hand_over(
+// The record's next message is among the packet's, and nothing is held: the blocks from there on are delivered.
+fn hand_over_own(
     kept: Record,
     first: u64,
     count: u16,
+    area: &[u8],
     datagram: &[u8],
     place: usize,
     out: &mut [u8],
 ) -> Taken
-    requires { ⌜ Fills (now datagram) place first count × (first ≤ kept .next .0) × (kept .next .0 < first + count) ⌝ }
-    ensures { λ r. ⌜ Answered (reporting kept (length (now (out .entry))) (messages first (blocksFrom (now (datagram .entry)) place count))) (now (out .entry)) r (now (out .exit)) ⌝ }
+    requires { ⌜ (kept .held ≡ 0) × Fills (now datagram) place first count × (first ≤ kept .next .0) × (kept .next .0 < first + count) ⌝ }
+    ensures { λ r. ⌜ Answered (reporting kept (now (area .entry)) (length (now (out .entry))) (messages first (blocksFrom (now (datagram .entry)) place count))) (now (area .entry)) (now (out .entry)) r (now (area .entry)) (now (out .exit)) ⌝ }
 {
     let next = kept.next;
     let past = first + count as u64;
     if contradicts(kept, past - 1, false) {
         return Taken::Refused(refusal::CONTRADICTION);
     }
-    let written = deliver(datagram, place, next.0 - first, out);
+    let written = deliver_own(datagram, place, next.0 - first, out);
     match written {
         Written::Refused(number) => Taken::Refused(number),
         Written::Bytes(bytes) => {
             let messages = (past - next.0) as u32;
-            let after = tell(kept, past, past - 1, false);
+            let after = tell(kept, past, 0, past - 1, false);
             Taken::Took {
                 bytes,
                 messages,
@@ -74,33 +85,102 @@ fn hand_over(
     }
 }
 
-// Messages whose blocks fill the datagram from a place to its end.
-fn take_messages(
+// The same where messages are held: those that are next then go out behind the packet's.
+fn hand_over(
     kept: Record,
     first: u64,
     count: u16,
+    area: &[u8],
     datagram: &[u8],
     place: usize,
     out: &mut [u8],
 ) -> Taken
-    requires { ⌜ Fills (now datagram) place first count ⌝ }
-    ensures { λ r. ⌜ Answered (reporting kept (length (now (out .entry))) (messages first (blocksFrom (now (datagram .entry)) place count))) (now (out .entry)) r (now (out .exit)) ⌝ }
+    requires { ⌜ (hangs kept ≡ true) × (sound (kept .held) (now area) ≡ true) × Fills (now datagram) place first count × (first ≤ kept .next .0) × (kept .next .0 < first + count) ⌝ }
+    ensures { λ r. ⌜ Answered (reporting kept (now (area .entry)) (length (now (out .entry))) (messages first (blocksFrom (now (datagram .entry)) place count))) (now (area .entry)) (now (out .entry)) r (now (area .entry)) (now (out .exit)) ⌝ }
 {
     let next = kept.next;
     let past = first + count as u64;
-    if first <= next.0 {
-        if next.0 < past {
-            return hand_over(kept, first, count, datagram, place, out);
+    if contradicts(kept, past - 1, false) {
+        return Taken::Refused(refusal::CONTRADICTION);
+    }
+    let held = free_from(kept.held, next.0, past - next.0);
+    let given = deliver(datagram, place, next.0 - first, held, past, area, out);
+    match given {
+        Delivered::Refused(number) => Taken::Refused(number),
+        Delivered::Bytes { bytes, released } => {
+            let reached = past + released as u64;
+            let messages = (reached - next.0) as u32;
+            let free = free_from(held, past, released as u64);
+            let after = tell(kept, reached, free, past - 1, false);
+            Taken::Took {
+                bytes,
+                messages,
+                after,
+            }
         }
+    }
+}
+
+// Messages where some are held, or come early.
+fn take_held(
+    kept: Record,
+    first: u64,
+    count: u16,
+    area: &mut [u8],
+    datagram: &[u8],
+    place: usize,
+    out: &mut [u8],
+) -> Taken
+    requires { ⌜ (hangs kept ≡ true) × (sound (kept .held) (now area) ≡ true) × Fills (now datagram) place first count ⌝ }
+    ensures { λ r. ⌜ Answered (reporting kept (now (area .entry)) (length (now (out .entry))) (messages first (blocksFrom (now (datagram .entry)) place count))) (now (area .entry)) (now (out .entry)) r (now (area .exit)) (now (out .exit)) ⌝ }
+{
+    let next = kept.next;
+    let past = first + count as u64;
+    if next.0 < first {
+        return hold_early(kept, first, count, area, datagram, place);
+    }
+    if next.0 < past {
+        return hand_over(kept, first, count, area, datagram, place, out);
     }
     pass(kept, past - 1, false)
 }
 
-// The datagram is gone over three times at most: read, skipped to the next message, copied from there.
-pub fn take(kept: Record, datagram: &[u8], out: &mut [u8]) -> Taken
-    ensures { λ r. ⌜ Answered (taking kept (now (datagram .entry)) (length (now (out .entry)))) (now (out .entry)) r (now (out .exit)) ⌝ }
+// Messages whose blocks fill the datagram from a place to its end. Most come in turn, with nothing held.
+fn take_messages(
+    kept: Record,
+    first: u64,
+    count: u16,
+    area: &mut [u8],
+    datagram: &[u8],
+    place: usize,
+    out: &mut [u8],
+) -> Taken
+    requires { ⌜ (hangs kept ≡ true) × (sound (kept .held) (now area) ≡ true) × Fills (now datagram) place first count ⌝ }
+    ensures { λ r. ⌜ Answered (reporting kept (now (area .entry)) (length (now (out .entry))) (messages first (blocksFrom (now (datagram .entry)) place count))) (now (area .entry)) (now (out .entry)) r (now (area .exit)) (now (out .exit)) ⌝ }
 {
-    if !hangs_together(kept) {
+    let next = kept.next;
+    let past = first + count as u64;
+    if kept.held == 0 {
+        if first <= next.0 {
+            if next.0 < past {
+                return hand_over_own(kept, first, count, area, datagram, place, out);
+            }
+            return pass(kept, past - 1, false);
+        }
+    }
+    take_held(kept, first, count, area, datagram, place, out)
+}
+
+// The datagram is gone over three times at most: read, skipped to the next message, copied from there.
+pub fn take(kept: Record, area: &mut [u8], datagram: &[u8], out: &mut [u8]) -> Taken
+    ensures { λ r. ⌜ Answered (taking kept (now (area .entry)) (now (datagram .entry)) (length (now (out .entry)))) (now (area .entry)) (now (out .entry)) r (now (area .exit)) (now (out .exit)) ⌝ }
+{
+    if !is_well_kept(kept) {
+        return Taken::Refused(refusal::BROKEN);
+    }
+    let next = kept.next;
+    let top = kept.top;
+    if !is_whole(kept.held, next.0, top.0, area) {
         return Taken::Refused(refusal::BROKEN);
     }
     let session = kept.session;
@@ -111,7 +191,7 @@ pub fn take(kept: Record, datagram: &[u8], out: &mut [u8]) -> Taken
             first,
             count,
             place,
-        } => take_messages(kept, first.0, count, datagram, place, out),
+        } => take_messages(kept, first.0, count, area, datagram, place, out),
         Heard::News { highest } => pass(kept, highest.0, false),
         Heard::End { total } => pass(kept, total.0, true),
     }

@@ -18,9 +18,9 @@ fn larger(a: u64, b: u64) -> u64
     if a < b { b } else { a }
 }
 
-// The record once it is told, with the next message's number.
-pub(crate) fn tell(kept: Record, next: u64, top: u64, end: bool) -> Record
-    ensures { λ r. ⌜ r ≡ told kept next top end ⌝ }
+// The record once it is told, with the next message's number and the bitmap of the held.
+pub(crate) fn tell(kept: Record, next: u64, held: u32, top: u64, end: bool) -> Record
+    ensures { λ r. ⌜ r ≡ told kept next held top end ⌝ }
 {
     let session = kept.session;
     let known = kept.top;
@@ -31,5 +31,6 @@ pub(crate) fn tell(kept: Record, next: u64, top: u64, end: bool) -> Record
         top: Sequence(larger(known.0, top)),
         ended: kept.ended | end,
         asked,
+        held,
     }
 }

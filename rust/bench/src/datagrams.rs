@@ -1,7 +1,7 @@
 //! The replay of datagrams: each is read, then taken into a session record.
 
 use crate::desk::{Desk, Seen};
-use crate::tape::{messages, Sum, LIMIT};
+use crate::tape::{messages, Sum, LIMIT, TURN};
 use std::hint::black_box;
 
 /// A protocol whose datagrams go into a session record.
@@ -46,8 +46,30 @@ impl Protocol for Memx {
     }
 }
 
-/// The tape's messages, so many to a datagram.
-fn datagrams<P: Protocol>(count: usize) -> Vec<Vec<u8>> {
+/// In which order datagrams come.
+pub trait Order {
+    /// Puts datagrams that stand in the order of their numbers into the order in which they come.
+    fn arrange(datagrams: &mut [(u32, Vec<u8>)]);
+}
+
+/// One after another.
+pub struct InOrder;
+
+impl Order for InOrder {
+    fn arrange(_: &mut [(u32, Vec<u8>)]) {}
+}
+
+/// Every second one is late: it comes after its successor, which is held until then.
+pub struct SecondLate;
+
+impl Order for SecondLate {
+    fn arrange(datagrams: &mut [(u32, Vec<u8>)]) {
+        datagrams.chunks_exact_mut(2).for_each(<[_]>::reverse);
+    }
+}
+
+/// The tape's messages, so many to a datagram, each with how many messages come before it.
+fn datagrams<P: Protocol>(count: usize) -> Vec<(u32, Vec<u8>)> {
     let datagram = |messages: &[Vec<u8>]| {
         let mut bytes = [P::HEADER, &(count as u16).to_be_bytes()].concat();
         for message in messages {
@@ -56,29 +78,33 @@ fn datagrams<P: Protocol>(count: usize) -> Vec<Vec<u8>> {
         }
         bytes
     };
-    messages().chunks(count).map(datagram).collect()
+    let before = (0..).step_by(count);
+    before.zip(messages().chunks(count).map(datagram)).collect()
 }
 
 /// Replays so many messages, `COUNT` to a datagram, and gives the checksum.
-pub fn replay<P: Protocol, D: Desk, const COUNT: usize>(messages: u64) -> u64 {
+pub fn replay<P: Protocol, O: Order, D: Desk, const COUNT: usize>(messages: u64) -> u64 {
     let mut datagrams = datagrams::<P>(COUNT);
-    let mut out = [0; LIMIT];
+    O::arrange(&mut datagrams);
+    let (mut area, mut out) = (D::area(), [0; LIMIT]);
     let mut record = P::open::<D>();
     let mut sum = Sum::default();
     let mut first = 1;
     while first <= messages as u32 {
-        for datagram in &mut datagrams {
-            datagram[P::NUMBER..P::NUMBER + 4].copy_from_slice(&first.to_be_bytes());
+        for (before, datagram) in &mut datagrams {
+            let number = first + *before;
+            datagram[P::NUMBER..P::NUMBER + 4].copy_from_slice(&number.to_be_bytes());
             let seen = black_box(P::read::<D>(black_box(datagram)));
             sum.add(seen.first);
             sum.add(seen.count.into());
             sum.add(seen.body.len() as u64);
-            let (delivered, count) = D::take(&mut record, black_box(datagram), &mut out);
+            let (delivered, count) = D::take(&mut record, &mut area, black_box(datagram), &mut out);
             sum.add(count);
             sum.written(delivered);
-            first += COUNT as u32;
         }
+        first += TURN as u32;
     }
+    assert_eq!(D::next(&record), first.into(), "every message is delivered");
     sum.add(D::next(&record));
     sum.total()
 }

@@ -21,6 +21,8 @@ pub struct Login {
 pub trait Desk {
     /// A session record.
     type Record;
+    /// Where a record's early messages are held.
+    type Area;
     /// A log over lent bytes.
     type Log<'a>;
 
@@ -35,8 +37,15 @@ pub trait Desk {
 
     fn open_ufo(name: [u8; 10]) -> Self::Record;
     fn open_memx(session: u64) -> Self::Record;
+    /// An area of 47,104 bytes.
+    fn area() -> Self::Area;
     /// Takes a datagram; what is delivered, and how many messages that is.
-    fn take<'a>(record: &mut Self::Record, datagram: &[u8], out: &'a mut [u8]) -> (&'a [u8], u64);
+    fn take<'a>(
+        record: &mut Self::Record,
+        area: &mut Self::Area,
+        datagram: &[u8],
+        out: &'a mut [u8],
+    ) -> (&'a [u8], u64);
     /// The number of the next message.
     fn next(record: &Self::Record) -> u64;
 
@@ -139,6 +148,7 @@ pub struct Proved;
 
 impl Desk for Proved {
     type Record = hinurapay::Record;
+    type Area = hinurapay::Area;
     type Log<'a> = hinurapay::Log<'a>;
 
     packets!(hinurapay);
@@ -151,8 +161,17 @@ impl Desk for Proved {
         hinurapay::Record::open_memx(hinurapay::SessionId(session))
     }
 
-    fn take<'a>(record: &mut Self::Record, datagram: &[u8], out: &'a mut [u8]) -> (&'a [u8], u64) {
-        let taken = record.take(datagram, out).expect(REFUSED);
+    fn area() -> Self::Area {
+        hinurapay::Area::new()
+    }
+
+    fn take<'a>(
+        record: &mut Self::Record,
+        area: &mut Self::Area,
+        datagram: &[u8],
+        out: &'a mut [u8],
+    ) -> (&'a [u8], u64) {
+        let taken = record.take(area, datagram, out).expect(REFUSED);
         (taken.blocks, taken.messages)
     }
 
@@ -180,6 +199,7 @@ pub struct Ordinary;
 
 impl Desk for Ordinary {
     type Record = ordinary::record::Record;
+    type Area = [u8; ordinary::held::AREA];
     type Log<'a> = (ordinary::lend::Log, &'a mut [u8]);
 
     packets!(ordinary::kinds);
@@ -192,8 +212,17 @@ impl Desk for Ordinary {
         ordinary::record::Record::open_memx(ordinary::kinds::SessionId(session))
     }
 
-    fn take<'a>(record: &mut Self::Record, datagram: &[u8], out: &'a mut [u8]) -> (&'a [u8], u64) {
-        let delivered = record.take_in_place(datagram, out).expect(REFUSED);
+    fn area() -> Self::Area {
+        [0; ordinary::held::AREA]
+    }
+
+    fn take<'a>(
+        record: &mut Self::Record,
+        area: &mut Self::Area,
+        datagram: &[u8],
+        out: &'a mut [u8],
+    ) -> (&'a [u8], u64) {
+        let delivered = record.take_in_place(area, datagram, out).expect(REFUSED);
         (&out[..delivered.bytes], delivered.messages)
     }
 

@@ -12,7 +12,7 @@ mod login;
 mod stream;
 mod tape;
 
-use datagrams::{Memx, Ufo};
+use datagrams::{InOrder, Memx, SecondLate, Ufo};
 use desk::{Ordinary, Proved};
 use stream::{Soup, Tcp};
 
@@ -35,24 +35,30 @@ pub struct Replay {
 }
 
 /// Every replay there is.
-pub const REPLAYS: [Replay; 8] = [
+pub const REPLAYS: [Replay; 9] = [
     Replay {
         name: "ufo",
         about: "UFO datagrams of 50 messages, each read and then taken into a session record",
-        proved: datagrams::replay::<Ufo, Proved, 50>,
-        ordinary: datagrams::replay::<Ufo, Ordinary, 50>,
+        proved: datagrams::replay::<Ufo, InOrder, Proved, 50>,
+        ordinary: datagrams::replay::<Ufo, InOrder, Ordinary, 50>,
     },
     Replay {
         name: "ufo-single",
         about: "the same with one message to a datagram",
-        proved: datagrams::replay::<Ufo, Proved, 1>,
-        ordinary: datagrams::replay::<Ufo, Ordinary, 1>,
+        proved: datagrams::replay::<Ufo, InOrder, Proved, 1>,
+        ordinary: datagrams::replay::<Ufo, InOrder, Ordinary, 1>,
     },
     Replay {
         name: "memx",
         about: "MEMX-UDP datagrams of 50 messages, each read and then taken into a session record",
-        proved: datagrams::replay::<Memx, Proved, 50>,
-        ordinary: datagrams::replay::<Memx, Ordinary, 50>,
+        proved: datagrams::replay::<Memx, InOrder, Proved, 50>,
+        ordinary: datagrams::replay::<Memx, InOrder, Ordinary, 50>,
+    },
+    Replay {
+        name: "held",
+        about: "UFO datagrams of 10 messages, of which every second one comes after its successor",
+        proved: datagrams::replay::<Ufo, SecondLate, Proved, 10>,
+        ordinary: datagrams::replay::<Ufo, SecondLate, Ordinary, 10>,
     },
     Replay {
         name: "soup",

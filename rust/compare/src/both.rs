@@ -26,14 +26,16 @@ macro_rules! answers {
 }
 
 answers! {
-    hp_read hp_wrote hp_block hp_tcp_reading hp_opened hp_taken hp_standing hp_timed hp_wait hp_asked
-    hp_yes hp_logged
+    hp_read hp_wrote hp_block hp_tcp_reading hp_opened hp_taken hp_standing hp_range hp_timed hp_wait
+    hp_asked hp_yes hp_logged
 }
 
-/// What both desks answered, and the output as both left it.
+/// What both desks answered, and area and output as both left them.
 pub struct Agreed<A> {
     /// The answer.
     pub answer: A,
+    /// All of the area.
+    pub area: Vec<u8>,
     /// All of the output.
     pub out: Vec<u8>,
 }
@@ -48,7 +50,7 @@ impl<A: Answer> Agreed<A> {
 impl Agreed<hp_wrote> {
     /// Holds what both wrote against the packet that it was read from.
     pub fn held_against(self, packet: &[u8]) -> Result<(), Difference> {
-        let Agreed { answer, out } = self;
+        let Agreed { answer, out, .. } = self;
         if answer.refusal == 0 && out[..answer.bytes as usize] == *packet {
             return Ok(());
         }
@@ -81,43 +83,58 @@ impl Difference {
     }
 }
 
+/// Copies bytes, piece by piece: an emulator takes five times as long for a long copy in one.
+pub fn copied(parts: &[&[u8]]) -> Vec<u8> {
+    let mut copy = Vec::with_capacity(parts.iter().map(|part| part.len()).sum());
+    for piece in parts.iter().flat_map(|part| part.chunks(1472)) {
+        copy.extend_from_slice(piece);
+    }
+    copy
+}
+
 /// So many bytes of output that was not written to yet.
 pub fn blank(room: usize) -> Vec<u8> {
     (0..room).map(|place| (place * 7 + 13) as u8).collect()
 }
 
-/// Calls one function on both desks: `both!(hp_name(arguments); lent name = bytes; room name = output)`,
-/// where the arguments speak of the bytes and the output by those names, and may do without either.
+/// Calls one function on both desks:
+/// `both!(hp_name(arguments); lent name = bytes; area name = area; room name = output)`, where the
+/// arguments speak of bytes, area and output by those names, and may do without any of them.
 macro_rules! both {
     ($function:ident($($argument:expr),*)) => {
-        both!($function($($argument),*); lent _lent = &[]; room _room = Vec::new())
+        both!($function($($argument),*); lent _lent = &[])
     };
     ($function:ident($($argument:expr),*); lent $lent:ident = $bytes:expr) => {
         both!($function($($argument),*); lent $lent = $bytes; room _room = Vec::new())
     };
     ($function:ident($($argument:expr),*); lent $lent:ident = $bytes:expr; room $room:ident = $out:expr) => {
+        both!($function($($argument),*); lent $lent = $bytes; area _area = &[]; room $room = $out)
+    };
+    ($function:ident($($argument:expr),*); lent $lent:ident = $bytes:expr; area $area:ident = $held:expr; room $room:ident = $out:expr) => {
         $crate::both::give(
             $bytes,
+            $held,
             $out,
-            |$lent, $room| hinurapay::flat::$function($($argument),*),
-            |$lent, $room| ordinary::flat::$function($($crate::twin::Twin::twin($argument)),*),
-            |$lent, $room| format!("{:?}", ($($argument,)*)),
+            |$lent, $area, $room| hinurapay::flat::$function($($argument),*),
+            |$lent, $area, $room| ordinary::flat::$function($($crate::twin::Twin::twin($argument)),*),
+            |$lent, $area, $room| format!("{:?}", ($($argument,)*)),
         )
     };
 }
 pub(crate) use both;
 
-/// Lends the same bytes, and output that starts equal, to both desks; what they agree on, or how
-/// they differ, on the smallest of such cases. All of the output is compared, and the lent bytes
-/// must be as they were. `inputs` tells all of the inputs, as far as they are not lent.
+/// Lends the same bytes, and area and output that start equal, to both desks; what they agree on, or
+/// how they differ, on the smallest of such cases. All of area and output is compared, and the lent
+/// bytes must be as they were. `inputs` tells all of the inputs, as far as they are not lent.
 pub fn give<A: Answer, B: Twin<Other = A>>(
     lent: &[u8],
+    area: &[u8],
     out: Vec<u8>,
-    proved: impl Fn(&[u8], &mut [u8]) -> A,
-    plain: impl Fn(&[u8], &mut [u8]) -> B,
-    inputs: impl Fn(&[u8], &mut [u8]) -> String,
+    proved: impl Fn(&[u8], &mut [u8], &mut [u8]) -> A,
+    plain: impl Fn(&[u8], &mut [u8], &mut [u8]) -> B,
+    inputs: impl Fn(&[u8], &mut [u8], &mut [u8]) -> String,
 ) -> Result<Agreed<A>, Difference> {
-    let once = |lent: &[u8], out: &[u8]| held(lent, out, &proved, &plain);
+    let once = |lent: &[u8], out: &[u8]| held(lent, area, out, &proved, &plain);
     let how = match once(lent, &out) {
         Ok(agreed) => return Ok(agreed),
         Err(how) => how,
@@ -128,13 +145,15 @@ pub fn give<A: Answer, B: Twin<Other = A>>(
     Err(Difference {
         size: lent.len() + out.len(),
         how: format!(
-            "lent bytes ({}): {}\noutput before ({} bytes): {}\n\
+            "lent bytes ({}): {}\narea before ({} bytes): {}\noutput before ({} bytes): {}\n\
              inputs, without what is lent: {}\n{how}",
             lent.len(),
             hex(&lent),
+            area.len(),
+            hex(area),
             out.len(),
             hex(&out),
-            inputs(&[], &mut []),
+            inputs(&[], &mut [], &mut []),
         ),
     })
 }
@@ -142,30 +161,69 @@ pub fn give<A: Answer, B: Twin<Other = A>>(
 /// Gives a case to both desks once.
 fn held<A: Answer, B: Twin<Other = A>>(
     lent: &[u8],
+    area: &[u8],
     out: &[u8],
-    proved: impl Fn(&[u8], &mut [u8]) -> A,
-    plain: impl Fn(&[u8], &mut [u8]) -> B,
+    proved: impl Fn(&[u8], &mut [u8], &mut [u8]) -> A,
+    plain: impl Fn(&[u8], &mut [u8], &mut [u8]) -> B,
 ) -> Result<Agreed<A>, String> {
     let before = [lent, &GUARD].concat();
     let copy = before.clone();
-    let mut proved_out = [out, &GUARD].concat();
-    let mut plain_out = proved_out.clone();
-    let answer = proved(&copy[..lent.len()], &mut proved_out[..out.len()]);
-    let expected = plain(lent, &mut plain_out[..out.len()]).twin();
+    let (mut one, mut other) = (Left::before(area, out), Left::before(area, out));
+    let (its_area, its_out) = one.lent();
+    let answer = proved(&copy[..lent.len()], its_area, its_out);
+    let (its_area, its_out) = other.lent();
+    let expected = plain(lent, its_area, its_out).twin();
     let untouched = *black_box(&copy) == before;
-    if answer == expected && proved_out == plain_out && untouched {
-        plain_out.truncate(out.len());
-        let out = plain_out;
-        return Ok(Agreed { answer, out });
+    if answer == expected && one == other && untouched {
+        other.area.truncate(area.len());
+        other.out.truncate(out.len());
+        let Left { area, out } = other;
+        return Ok(Agreed { answer, area, out });
     }
     Err(format!(
         "proved:   {answer:?}\nordinary: {expected:?}\n\
+         area, proved:   {}\narea, ordinary: {}\n\
          output, proved:   {}\noutput, ordinary: {}\nlent bytes untouched: {untouched}",
-        hex(&proved_out),
-        hex(&plain_out),
+        hex(&one.area),
+        hex(&other.area),
+        hex(&one.out),
+        hex(&other.out),
     ))
 }
 
+/// Area and output as a desk left them, each with its guard.
+#[derive(PartialEq)]
+struct Left {
+    area: Vec<u8>,
+    out: Vec<u8>,
+}
+
+impl Left {
+    /// Both as they are before a call.
+    fn before(area: &[u8], out: &[u8]) -> Left {
+        Left {
+            area: copied(&[area, &GUARD]),
+            out: copied(&[out, &GUARD]),
+        }
+    }
+
+    /// Both as they are lent, without the guards.
+    fn lent(&mut self) -> (&mut [u8], &mut [u8]) {
+        let area = self.area.len() - GUARD.len();
+        let out = self.out.len() - GUARD.len();
+        (&mut self.area[..area], &mut self.out[..out])
+    }
+}
+
+/// The bytes in hexadecimal; a long run of one byte is told by how many they are.
 fn hex(bytes: &[u8]) -> String {
-    bytes.iter().map(|byte| format!("{byte:02x}")).collect()
+    let mut told = String::new();
+    for run in bytes.chunk_by(|one, next| one == next) {
+        let byte = format!("{:02x}", run[0]);
+        told += &match run.len() {
+            1..=16 => byte.repeat(run.len()),
+            many => format!("({byte} {many} times)"),
+        };
+    }
+    told
 }

@@ -1,11 +1,15 @@
 //! The cases of every function of the C face.
 
+mod record;
+
+pub use record::{taken, ToTake};
+
 use crate::both::{blank, both, Agreed, Difference};
 use crate::dice::Dice;
 use crate::make;
 use crate::twin::Twin;
 use crate::Case;
-use hinurapay::flat::{hp_packet, hp_read, hp_record, hp_taken, hp_tcp, hp_wrote};
+use hinurapay::flat::{hp_packet, hp_read, hp_tcp, hp_wrote};
 use ordinary::flat as plain;
 
 /// The longest UFO and MEMX-UDP packet.
@@ -21,7 +25,7 @@ const TCP: usize = 65_538;
 const FIXED: usize = 64;
 
 /// Every function of the face with its cases.
-pub const FUNCTIONS: [(&str, Case); 28] = [
+pub const FUNCTIONS: [(&str, Case); 29] = [
     ("hp_soup_read", soup_read),
     ("hp_ufo_read_down", ufo_read_down),
     ("hp_ufo_read_up", ufo_read_up),
@@ -35,13 +39,14 @@ pub const FUNCTIONS: [(&str, Case); 28] = [
     ("hp_memx_write", memx_write),
     ("hp_tcp_read", tcp_read),
     ("hp_tcp_write", tcp_write),
-    ("hp_open_ufo", open_ufo),
-    ("hp_open_memx", open_memx),
-    ("hp_take", take),
-    ("hp_standing_of", standing_of),
+    ("hp_open_ufo", record::open_ufo),
+    ("hp_open_memx", record::open_memx),
+    ("hp_take", record::take),
+    ("hp_standing_of", record::standing_of),
+    ("hp_missing_range", record::missing_range),
     ("hp_time", time),
     ("hp_wait_of", wait_of),
-    ("hp_ask", ask),
+    ("hp_ask", record::ask),
     ("hp_line_lost", line_lost),
     ("hp_heartbeat_due", heartbeat_due),
     ("hp_log_add", log_add),
@@ -137,7 +142,7 @@ pub fn memx_written(
     body: &[u8],
     out: Vec<u8>,
 ) -> Result<(hp_wrote, Vec<u8>), Difference> {
-    let Agreed { answer, out } = memx_laid(fields, extra, body, out)?;
+    let Agreed { answer, out, .. } = memx_laid(fields, extra, body, out)?;
     Ok((answer, out))
 }
 
@@ -275,43 +280,6 @@ fn tcp_write(dice: &mut Dice) -> Result<u64, Difference> {
     writing!(hp_tcp_write, fields, body, dice)
 }
 
-/// A name where it is lent; while a smaller case is looked for there may be less than one.
-fn name(lent: &[u8]) -> &[u8; 10] {
-    lent.first_chunk().unwrap_or(&[0; 10])
-}
-
-fn open_ufo(dice: &mut Dice) -> Result<u64, Difference> {
-    let text = make::text::<10>(false, dice);
-    both!(hp_open_ufo(name(bytes)); lent bytes = &text).map(Agreed::refusal)
-}
-
-fn open_memx(dice: &mut Dice) -> Result<u64, Difference> {
-    let session = make::number(dice);
-    both!(hp_open_memx(session)).map(Agreed::refusal)
-}
-
-fn take(dice: &mut Dice) -> Result<u64, Difference> {
-    let (record, datagram) = make::to_take(DATAGRAM, dice);
-    let needed = plain::hp_take(record.twin(), &datagram, &mut [0; DATAGRAM]).bytes;
-    taken(record, &datagram, room(needed, dice)).map(|(taken, _)| taken.refusal)
-}
-
-/// Takes a datagram by both desks into the same output; what they answered, and the output as both
-/// left it.
-pub fn taken(
-    record: hp_record,
-    datagram: &[u8],
-    out: Vec<u8>,
-) -> Result<(hp_taken, Vec<u8>), Difference> {
-    let taken = both!(hp_take(record, bytes, out); lent bytes = datagram; room out = out)?;
-    Ok((taken.answer, taken.out))
-}
-
-fn standing_of(dice: &mut Dice) -> Result<u64, Difference> {
-    let record = make::record(dice);
-    both!(hp_standing_of(record)).map(Agreed::refusal)
-}
-
 fn time(dice: &mut Dice) -> Result<u64, Difference> {
     let sheet = make::sheet(dice);
     let sample = make::time(60_000.0, dice);
@@ -321,18 +289,6 @@ fn time(dice: &mut Dice) -> Result<u64, Difference> {
 fn wait_of(dice: &mut Dice) -> Result<u64, Difference> {
     let (sheet, patience) = (make::sheet(dice), make::patience(dice));
     both!(hp_wait_of(sheet, patience)).map(Agreed::refusal)
-}
-
-fn ask(dice: &mut Dice) -> Result<u64, Difference> {
-    let record = make::record(dice);
-    let (sheet, patience) = (make::sheet(dice), make::patience(dice));
-    let elapsed = match dice.below(4) {
-        0 => make::time(86_400_000.0, dice),
-        1 => patience.first,
-        2 => sheet.mean + 4.0 * sheet.spread,
-        _ => make::time(3000.0, dice),
-    };
-    both!(hp_ask(record, sheet, patience, elapsed)).map(Agreed::refusal)
 }
 
 /// A clock reading and an earlier one, mostly about so far apart.

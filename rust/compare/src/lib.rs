@@ -6,12 +6,14 @@ mod both;
 mod cases;
 pub mod dice;
 pub mod make;
+pub mod plan;
 pub mod session;
 mod smallest;
 pub mod twin;
 
-pub use both::Difference;
-pub use cases::{memx_both_ways, memx_written, soup_both_ways, soup_written, taken, FUNCTIONS};
+pub use both::{Agreed, Difference};
+pub use cases::{memx_both_ways, memx_written, soup_both_ways, soup_written};
+pub use cases::{taken, ToTake, FUNCTIONS};
 
 use dice::Dice;
 

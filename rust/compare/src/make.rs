@@ -1,11 +1,13 @@
 //! What the cases are made of: numbers, text and blocks here, packets and the desk's own things apart.
 
 mod decimals;
+mod held;
 mod kept;
 mod packets;
 mod tcp;
 
 pub use decimals::*;
+pub use held::*;
 pub use kept::*;
 pub use packets::*;
 pub use tcp::*;

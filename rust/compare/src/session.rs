@@ -10,7 +10,7 @@ pub use ufo::Ufo;
 
 use crate::both::{Agreed, Answer, Difference};
 use crate::dice::Dice;
-use hinurapay::flat::hp_record;
+use hinurapay::flat::{hp_record, hp_wrote};
 use line::Line;
 use recorder::Recorder;
 use std::thread;
@@ -24,8 +24,8 @@ pub trait Sender {
     fn new(messages: usize) -> Self;
     /// A fresh record of its session.
     fn open() -> hp_record;
-    /// Reads one of its datagrams, which no reader may refuse.
-    fn read(datagram: &[u8]);
+    /// Reads one of its datagrams, which no reader may refuse; the highest number that it tells of.
+    fn read(datagram: &[u8]) -> u64;
     /// One more datagram: the next messages, the end, or a heartbeat.
     fn send(&mut self, dice: &mut Dice) -> Vec<u8>;
     /// A request for so many messages from that number on, as it goes over the line.
@@ -36,12 +36,31 @@ pub trait Sender {
     fn log(&self) -> &[u8];
 }
 
+/// How a session goes.
+#[derive(Clone, Copy)]
+pub struct Terms {
+    /// How many messages there are.
+    pub messages: usize,
+    /// The lines lose one datagram in so many; 0 for none.
+    pub loss: usize,
+    /// The line down delays some by so many others at most; 0 for none.
+    pub delay: usize,
+    /// After how many rounds it is broken off.
+    pub rounds: usize,
+}
+
 /// What a session came to.
 pub struct Outcome {
     /// How many datagrams the recorder took.
     pub taken: u64,
     /// How many requests it made.
     pub requests: u64,
+    /// How many messages it held, and how many at most at one time.
+    pub held: (u64, u64),
+    /// How many ranges were missing at most at one time.
+    pub ranges: usize,
+    /// How many numbers at most were published and not delivered.
+    pub behind: u64,
     /// Whether the record is complete.
     pub complete: bool,
     /// The blocks that were delivered.
@@ -50,16 +69,19 @@ pub struct Outcome {
     pub log: Vec<u8>,
 }
 
-/// Plays a session of so many messages over a line that loses one datagram in `loss`, until the
-/// record is complete or so many rounds are over. Panics if the two desks differ in any answer,
-/// record or byte, or if either end refuses what it should take.
-pub fn play<S: Sender>(seed: u64, messages: usize, loss: usize, rounds: usize) -> Outcome {
+/// Plays a session on these terms, until the record is complete or the rounds are over. Panics if the
+/// two desks differ in any answer, record or byte, if either end refuses what it should take, if
+/// anything but the log's beginning is delivered, or if what the record holds and lacks, at the end
+/// and now and then before, is not as it tells.
+pub fn play<S: Sender>(seed: u64, terms: Terms) -> Outcome {
     let _telling = Telling(seed);
-    let mut dice = Dice::seeded(seed, messages as u64, loss as u64);
-    let (mut down, mut up) = (Line::losing(loss), Line::losing(loss));
-    let mut sender = S::new(messages);
+    let mut dice = Dice::seeded(seed, terms.messages as u64, terms.loss as u64);
+    let mut down = Line::new(terms.loss, terms.delay);
+    let mut up = Line::new(terms.loss, 0);
+    let mut sender = S::new(terms.messages);
     let mut recorder = Recorder::opened(S::open());
-    for _ in 0..rounds {
+    let mut top = 0;
+    for round in 0..terms.rounds {
         down.send(sender.send(&mut dice), &mut dice);
         while let Some(request) = up.receive(&mut dice) {
             for datagram in sender.answer(&request) {
@@ -67,10 +89,13 @@ pub fn play<S: Sender>(seed: u64, messages: usize, loss: usize, rounds: usize) -
             }
         }
         while let Some(datagram) = down.receive(&mut dice) {
-            S::read(&datagram);
+            top = top.max(S::read(&datagram));
             recorder.take(&datagram);
             let due = sender.log().get(..recorder.tape.len());
             assert_eq!(due, Some(&recorder.tape[..]), "what is delivered was sent");
+        }
+        if round % 10 == 0 {
+            recorder.check(sender.log(), top);
         }
         if recorder.complete() {
             break;
@@ -79,9 +104,13 @@ pub fn play<S: Sender>(seed: u64, messages: usize, loss: usize, rounds: usize) -
             up.send(S::request(first, count), &mut dice);
         }
     }
+    recorder.check(sender.log(), top);
     Outcome {
         taken: recorder.taken,
         requests: recorder.requests,
+        held: recorder.held,
+        ranges: recorder.ranges,
+        behind: recorder.behind,
         complete: recorder.complete(),
         tape: recorder.tape,
         log: sender.log().to_vec(),
@@ -99,11 +128,17 @@ impl Drop for Telling {
     }
 }
 
-/// What both desks answered, which is no refusal, and the output; panics if they differ.
-fn agreed<A: Answer>(both: Result<Agreed<A>, Difference>) -> (A, Vec<u8>) {
+/// What both desks agree on, which is no refusal; panics if they differ.
+fn agreed<A: Answer>(both: Result<Agreed<A>, Difference>) -> Agreed<A> {
     let agreed = both.unwrap_or_else(|difference| panic!("{}", difference.how));
     assert_eq!(agreed.answer.refusal(), 0);
-    (agreed.answer, agreed.out)
+    agreed
+}
+
+/// The packet that both desks wrote.
+fn laid(both: Result<Agreed<hp_wrote>, Difference>) -> Vec<u8> {
+    let Agreed { answer, out, .. } = agreed(both);
+    written(out, answer.bytes)
 }
 
 /// The bytes that were written, the rest of the output being as it was.

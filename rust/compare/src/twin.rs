@@ -63,10 +63,11 @@ twins! {
     hp_block: refusal start length next;
     hp_tcp: r#type letter count session number top start length;
     hp_tcp_reading: refusal packet;
-    hp_record: style ended name session next top asked;
+    hp_record: style ended name session next top asked held;
     hp_opened: refusal record;
     hp_taken: refusal bytes messages record;
     hp_standing: refusal complete missing first last;
+    hp_range: refusal first last;
     hp_sheet: mean spread timed;
     hp_patience: rule first second;
     hp_timed: refusal sheet;

@@ -1,8 +1,11 @@
 //! MEMX-UDP headers of every length, read, taken and written: the two desks agree, and on what the
 //! paper says, which is worked out here apart from both.
 
+use compare::make::AREA;
+use compare::twin::Twin;
 use compare::{memx_both_ways, memx_written, taken, Difference};
-use hinurapay::flat::{hp_packet, hp_read, hp_record, hp_taken, hp_wrote};
+use hinurapay::flat::{hp_packet, hp_read, hp_record, hp_take, hp_taken, hp_wrote};
+use ordinary::flat;
 use std::collections::BTreeSet;
 
 /// The refusals that came up (0: none).
@@ -175,9 +178,35 @@ fn fresh() -> hp_record {
     }
 }
 
+/// An area in which nothing was ever held.
+fn untouched() -> Vec<u8> {
+    vec![FILL; AREA]
+}
+
+/// An area for each desk, lent to it again and again: none of the datagrams is such as to be held.
+struct Desks {
+    areas: [Vec<u8>; 2],
+}
+
+impl Desks {
+    /// Takes a datagram into a fresh record by both desks, and says with which refusal they answered
+    /// (0: none).
+    fn take(&mut self, datagram: &[u8]) -> u64 {
+        let [proved, plain] = &mut self.areas;
+        let mut outs = [vec![FILL; datagram.len()], vec![FILL; datagram.len()]];
+        let answer = hp_take(fresh(), proved, datagram, &mut outs[0]);
+        let expected = flat::hp_take(fresh().twin(), plain, datagram, &mut outs[1]);
+        assert_eq!(answer, expected.twin(), "{datagram:02x?}");
+        assert_eq!(outs[0], outs[1], "{datagram:02x?}");
+        answer.refusal
+    }
+}
+
 /// Reads every datagram of a type by both desks, and takes it into a fresh record.
 fn read(r#type: u8) -> CameUp {
     let mut came_up = CameUp::new();
+    let areas = [untouched(), untouched()];
+    let mut desks = Desks { areas };
     for datagram in (0..=255).flat_map(|header| datagrams(r#type, header)) {
         let expected = expected(&datagram);
         assert_eq!(
@@ -185,10 +214,10 @@ fn read(r#type: u8) -> CameUp {
             expected,
             "{datagram:02x?}"
         );
-        let (took, _) = agreed(taken(fresh(), &datagram, vec![FILL; datagram.len()]));
-        assert_eq!(took.refusal, expected.refusal, "{datagram:02x?}");
+        assert_eq!(desks.take(&datagram), expected.refusal, "{datagram:02x?}");
         came_up.insert(expected.refusal);
     }
+    assert!(desks.areas.iter().all(|area| *area == untouched()));
     came_up
 }
 
@@ -212,18 +241,30 @@ fn midway() -> hp_record {
     }
 }
 
-/// Takes a datagram, and asks that it delivers these bytes and leaves this record.
-fn takes(datagram: &[u8], due: &[u8], messages: u64, record: hp_record) {
-    let (answer, out) = agreed(taken(midway(), datagram, vec![FILL; 64]));
+/// Takes a datagram, and asks that it delivers these messages and leaves this record and this area.
+fn takes(datagram: &[u8], due: &[&[u8]], record: hp_record, area: &[u8]) {
+    let took = agreed(taken(midway(), &untouched(), datagram, vec![FILL; 64]));
+    let bytes = due.concat();
     let expected = hp_taken {
         refusal: 0,
-        bytes: due.len() as u64,
-        messages,
+        bytes: bytes.len() as u64,
+        messages: due.len() as u64,
         record,
     };
-    assert_eq!(answer, expected, "{datagram:02x?}");
-    assert!(out.starts_with(due), "{datagram:02x?}");
-    assert!(out[due.len()..].iter().all(|&byte| byte == FILL));
+    assert_eq!(took.answer, expected, "{datagram:02x?}");
+    assert!(took.out.starts_with(&bytes), "{datagram:02x?}");
+    assert!(took.out[bytes.len()..].iter().all(|&byte| byte == FILL));
+    assert!(took.area == area, "{datagram:02x?}");
+}
+
+/// The four messages held from that number on: the full slots, and the area.
+fn held_from(first: u64) -> (u32, Vec<u8>) {
+    let (mut full, mut area) = (0, untouched());
+    for (number, block) in (first..).zip(MESSAGES) {
+        full |= 1 << number;
+        area[number as usize * 1472..][..block.len()].copy_from_slice(block);
+    }
+    (full, area)
 }
 
 #[test]
@@ -238,23 +279,26 @@ fn every_header_length_is_skipped_by_the_record() {
                 ended,
                 ..midway()
             };
-            takes(&laid(r#type, header, number, &extra, b""), b"", 0, after);
+            let datagram = laid(r#type, header, number, &extra, b"");
+            takes(&datagram, &[], after, &untouched());
         }
         let counted = [b"\0\x04", &MESSAGES.concat()[..]].concat();
         for first in 1..=7 {
-            let datagram = laid(2, header, first, &extra, &counted);
-            // of the messages `first` to `first + 3`, those from 5 on, if 5 is one of them
+            // of the messages `first` to `first + 3`, those from 5 on, if 5 is one of them; if 5 is
+            // before them, all are held
             let had = 5_usize.saturating_sub(first as usize);
-            let due = match first {
-                1 | 6 | 7 => &[],
-                _ => &MESSAGES[had..],
+            let (due, (held, area)) = match first {
+                1 => (&[][..], (0, untouched())),
+                6 | 7 => (&[][..], held_from(first)),
+                _ => (&MESSAGES[had..], (0, untouched())),
             };
             let after = hp_record {
                 next: 5 + due.len() as u64,
                 top: (first + 3).max(6),
+                held,
                 ..midway()
             };
-            takes(&datagram, &due.concat(), due.len() as u64, after);
+            takes(&laid(2, header, first, &extra, &counted), due, after, &area);
             delivered += due.len();
         }
     }

@@ -3,7 +3,7 @@
 use compare::dice::Dice;
 use compare::make;
 use hinurapay::memx_tcp::{self, LoginReject, Mode, Packet, ReplayReject, StreamReject};
-use hinurapay::{flat, memx, soup, ufo, Refusal, Sequence, SessionId};
+use hinurapay::{flat, memx, soup, ufo, Area, Record, Refusal, Sequence, SessionId};
 
 const CASES: u64 = 20_000;
 
@@ -245,6 +245,46 @@ fn memx_tcp_fields_stand_in_their_places() {
         assert_eq!(memx_tcp::write(&packet, &mut out), Ok(bytes.len()));
         assert_eq!(out[..bytes.len()], *bytes);
     }
+}
+
+#[test]
+fn the_missing_ranges_are_handed_out_one_after_another() {
+    let mut most = 0;
+    for case in 0..CASES {
+        let kept = make::record(&mut Dice::seeded(2, 0, case));
+        let Ok(record) = Record::resumed(kept) else {
+            assert_eq!(flat::hp_missing_range(kept, 0).refusal, 10);
+            continue;
+        };
+        let standing = record.standing().unwrap();
+        let ranges: Vec<_> = record.missing().collect();
+        for (place, &(first, last)) in ranges.iter().enumerate() {
+            let range = flat::hp_missing_range(kept, place as u64);
+            assert_eq!((range.first, range.last), (first.0, last.0));
+        }
+        assert_eq!(ranges.len(), standing.missing);
+        assert_eq!(ranges.first().copied(), standing.first);
+        most = most.max(ranges.len());
+    }
+    assert_eq!(most, 17);
+}
+
+#[test]
+fn a_record_and_its_area_can_be_kept() {
+    let mut record = Record::open_memx(SessionId(7));
+    let mut area = Area::new();
+    let mut datagram = *b"\x02\x12\0\0\0\0\0\0\0\x07\0\0\0\0\0\0\0\x02\0\x01\0\x02HI";
+    record.take(&mut area, &datagram, &mut []).unwrap();
+    assert_eq!(record.held(), 1 << 2);
+
+    let (kept, bytes) = (record.flat(), area.0);
+    let mut record = Record::resumed(kept).unwrap();
+    let mut out = [0; Record::ROOM];
+    datagram[17] = 1;
+    let other = record.take(&mut Area([0xff; Area::BYTES]), &datagram, &mut out);
+    assert_eq!(other, Err(Refusal::Broken), "another area");
+    let taken = record.take(&mut Area(bytes), &datagram, &mut out).unwrap();
+    assert_eq!(taken.blocks, b"\0\x02HI\0\x02HI");
 }
 
 #[test]

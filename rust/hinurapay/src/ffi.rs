@@ -44,7 +44,7 @@ macro_rules! function {
                 fn $name($($c)*) -> $answer;
             }
             // SAFETY: every pointer is a slice's or an array's own, with its own length; and what is
-            // read does not overlap what is written, which is borrowed for that alone
+            // written overlaps nothing else, being borrowed for that alone
             unsafe { $name($($on)*) }
         }
     };
@@ -89,10 +89,13 @@ functions! {
     hp_open_ufo(name: &[u8; 10]) -> hp_opened;
     /// Opens a record of a MEMX-UDP session; its `name` is zeros.
     hp_open_memx(session: u64) -> hp_opened;
-    /// Takes a datagram and delivers what is next.
-    hp_take(record: hp_record, lent datagram, room out) -> hp_taken;
+    /// Takes a datagram, delivers what is next, and holds what is early in the area, which is 32 slots
+    /// of 1,472 bytes.
+    hp_take(record: hp_record, room area, lent datagram, room out) -> hp_taken;
     /// Whether a record is complete, and what is missing.
     hp_standing_of(record: hp_record) -> hp_standing;
+    /// The missing range at that place, counted from 0.
+    hp_missing_range(record: hp_record, place: u64) -> hp_range;
 
     /// Times one more answer.
     hp_time(sheet: hp_sheet, sample: f64) -> hp_timed;

@@ -5,7 +5,7 @@
 //! numbers in the text are those of document 01's refusals; see [`Refusal`].
 //!
 //! ```
-//! use hinurapay::{Log, Name, Record, Sequence};
+//! use hinurapay::{Area, Log, Name, Record, Sequence};
 //!
 //! // the server logs a message and sends it as it comes
 //! let mut bytes = [0; 100];
@@ -15,15 +15,16 @@
 //! let mut datagram = [0; 1472];
 //! let length = log.answer(Sequence(1), 1, &mut datagram)?;
 //!
-//! // the recorder takes it
+//! // the recorder takes it; had it come early, it would be held in the area
 //! let mut record = Record::open_ufo(Name(*b"8841      "))?;
+//! let mut area = Area::new();
 //! let mut out = [0; 1472];
-//! let taken = record.take(&datagram[..length], &mut out)?;
+//! let taken = record.take(&mut area, &datagram[..length], &mut out)?;
 //! assert_eq!(taken.blocks, log.blocks());
 //! assert!(!record.standing()?.complete, "the end was not heard yet");
 //!
 //! let length = log.end_packet(&mut datagram)?;
-//! record.take(&datagram[..length], &mut out)?;
+//! record.take(&mut area, &datagram[..length], &mut out)?;
 //! assert!(record.standing()?.complete);
 //! # Ok::<(), hinurapay::Refusal>(())
 //! ```
@@ -31,6 +32,7 @@
 #![no_std]
 #![deny(missing_docs, unsafe_code)]
 
+mod area;
 mod blocks;
 mod clock;
 #[allow(unsafe_code)]
@@ -39,6 +41,7 @@ mod kinds;
 mod lend;
 pub mod memx;
 pub mod memx_tcp;
+mod missing;
 mod record;
 mod refusal;
 pub mod soup;
@@ -46,10 +49,12 @@ pub mod soup;
 mod structs;
 pub mod ufo;
 
+pub use area::Area;
 pub use blocks::Blocks;
 pub use clock::{heartbeat_due, line_lost, Patience, Sheet};
 pub use kinds::{Name, Password, Reason, Sequence, SessionId, Tick, User};
 pub use lend::Log;
+pub use missing::Missing;
 pub use record::{Asked, Record, Standing, Taken};
 pub use refusal::Refusal;
 

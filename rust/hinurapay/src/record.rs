@@ -1,24 +1,27 @@
 //! The session record: what a receiver has had, what it knows of, and what it lacks.
 
+use crate::area::Area;
 use crate::clock::{Patience, Sheet};
 use crate::flat::{hp_ask, hp_open_memx, hp_open_ufo, hp_record, hp_standing_of, hp_take};
 use crate::kinds::{Name, Sequence, SessionId};
+use crate::missing::Missing;
 use crate::refusal::{taken, Refusal};
 
 /// What is known of one session. It is changed where it lies, and only where nothing is refused.
 ///
 /// ```
-/// use hinurapay::{Asked, Name, Patience, Record, Sequence, Sheet};
+/// use hinurapay::{Area, Asked, Name, Patience, Record, Sequence, Sheet};
 ///
 /// let mut record = Record::open_ufo(Name(*b"8841      "))?;
+/// let mut area = Area::new();
 /// let mut out = [0; 1472];
 /// // messages 1 and 2, "HI" and an empty one
-/// let taken = record.take(b"S\0\0\0\x01\0\x02\0\x02HI\0\0", &mut out)?;
+/// let taken = record.take(&mut area, b"S\0\0\0\x01\0\x02\0\x02HI\0\0", &mut out)?;
 /// assert_eq!((taken.messages, taken.blocks), (2, &b"\0\x02HI\0\0"[..]));
 /// assert_eq!((record.next(), record.top()), (Sequence(3), Sequence(2)));
 ///
 /// // a heartbeat that names 5 as the next: 3 and 4 are missing
-/// record.take(b"S\0\0\0\x05\0\0", &mut out)?;
+/// record.take(&mut area, b"S\0\0\0\x05\0\0", &mut out)?;
 /// let asked = record.ask(&Sheet::default(), &Patience::Never, 0.0)?;
 /// assert_eq!(asked, Asked::Request { first: Sequence(3), count: 2 });
 /// # Ok::<(), hinurapay::Refusal>(())
@@ -40,8 +43,10 @@ pub struct Taken<'a> {
 pub struct Standing {
     /// Whether the end was heard and every message was delivered.
     pub complete: bool,
-    /// The first and the last number missing, if any are.
-    pub missing: Option<(Sequence, Sequence)>,
+    /// How many ranges of numbers are missing; [`Record::missing`] hands them out.
+    pub missing: usize,
+    /// The first and the last number of the first range, if any is missing.
+    pub first: Option<(Sequence, Sequence)>,
 }
 
 /// What to ask now.
@@ -61,6 +66,9 @@ pub enum Asked {
 }
 
 impl Record {
+    /// Output enough for whatever one datagram can deliver: its own messages and all that are held.
+    pub const ROOM: usize = 1472 + (Area::SLOTS - 1) * Area::SLOT;
+
     /// A fresh record of a UFO session; 5 or 6 for a name that could not stand in `A`.
     pub fn open_ufo(name: Name) -> Result<Record, Refusal> {
         let opened = hp_open_ufo(&name.0);
@@ -72,7 +80,8 @@ impl Record {
         Record(hp_open_memx(session.0).record)
     }
 
-    /// A record that was kept, as [`Record::flat`] gave it; 10 if it doesn't hang together.
+    /// A record that was kept, as [`Record::flat`] gave it; 10 if it doesn't hang together. Where it
+    /// holds messages, its [`Area`] is to be kept with it.
     ///
     /// ```
     /// use hinurapay::{Record, Refusal, SessionId};
@@ -112,11 +121,23 @@ impl Record {
         (self.0.asked != 0).then_some(Sequence(self.0.asked))
     }
 
-    /// Takes a datagram and delivers the blocks that are next into the output; the reader's refusals,
-    /// 16, 11, 12, 9.
+    /// Which slots of its area hold messages that came early: bit i is 1 where slot i does.
+    pub fn held(&self) -> u32 {
+        self.0.held
+    }
+
+    /// Takes a datagram: delivers the blocks that are next into the output, and behind them those that
+    /// were held for it, and holds early ones in the area. Refused: 10 for an area that can't be the
+    /// record's own, then the reader's refusals, 16, 11, 12, 9. [`Record::ROOM`] bytes of output are
+    /// never too few.
     #[inline]
-    pub fn take<'a>(&mut self, datagram: &[u8], out: &'a mut [u8]) -> Result<Taken<'a>, Refusal> {
-        let took = hp_take(self.0, datagram, out);
+    pub fn take<'a>(
+        &mut self,
+        area: &mut Area,
+        datagram: &[u8],
+        out: &'a mut [u8],
+    ) -> Result<Taken<'a>, Refusal> {
+        let took = hp_take(self.0, &mut area.0, datagram, out);
         taken(took.refusal, ())?;
         self.0 = took.record;
         Ok(Taken {
@@ -128,26 +149,49 @@ impl Record {
     /// Whether the record is complete, and what is missing.
     ///
     /// ```
-    /// use hinurapay::{Name, Record, Sequence};
+    /// use hinurapay::{Area, Name, Record, Sequence};
     ///
     /// let mut record = Record::open_ufo(Name(*b"8841      "))?;
-    /// record.take(b"E\0\0\0\x02", &mut [])?; // the end, after two messages
+    /// record.take(&mut Area::new(), b"E\0\0\0\x02", &mut [])?; // the end, after two messages
     /// let standing = record.standing()?;
-    /// assert_eq!(standing.missing, Some((Sequence(1), Sequence(2))));
+    /// assert_eq!(standing.missing, 1);
+    /// assert_eq!(standing.first, Some((Sequence(1), Sequence(2))));
     /// assert!(!standing.complete);
     /// # Ok::<(), hinurapay::Refusal>(())
     /// ```
     pub fn standing(&self) -> Result<Standing, Refusal> {
         let standing = hp_standing_of(self.0);
-        let missing = (Sequence(standing.first), Sequence(standing.last));
+        let first = (Sequence(standing.first), Sequence(standing.last));
         let answer = Standing {
             complete: standing.complete == 1,
-            missing: (standing.missing == 1).then_some(missing),
+            missing: standing.missing.into(),
+            first: (standing.missing != 0).then_some(first),
         };
         taken(standing.refusal, answer)
     }
 
-    /// What to ask now, `elapsed` milliseconds after asking last; 10 for the sheet, then 15 for the
+    /// Every range of numbers that is missing, from the first on.
+    ///
+    /// ```
+    /// use hinurapay::{Area, Record, Sequence, SessionId};
+    ///
+    /// let mut record = Record::open_memx(SessionId(7));
+    /// // of session 7 message 3, which is empty, and a heartbeat: 5 is the highest number
+    /// let third = b"\x02\x12\0\0\0\0\0\0\0\x07\0\0\0\0\0\0\0\x03\0\x01\0\0";
+    /// let heartbeat = b"\0\x12\0\0\0\0\0\0\0\x07\0\0\0\0\0\0\0\x05";
+    /// let mut area = Area::new();
+    /// record.take(&mut area, third, &mut [])?;
+    /// record.take(&mut area, heartbeat, &mut [])?;
+    /// let ranges = [(Sequence(1), Sequence(2)), (Sequence(4), Sequence(5))];
+    /// assert!(record.missing().eq(ranges));
+    /// # Ok::<(), hinurapay::Refusal>(())
+    /// ```
+    pub fn missing(&self) -> Missing {
+        Missing::of(self.0)
+    }
+
+    /// What to ask now, `elapsed` milliseconds after asking last; a request names the first range that
+    /// is missing, or its first 65,535 numbers. Refused: 10 for the sheet, then 15 for the
     /// patience, or for a time outside 0 to 86,400,000 or not a number.
     pub fn ask(
         &mut self,

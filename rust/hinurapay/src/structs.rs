@@ -148,6 +148,8 @@ structs! {
         top: u64,
         /// The number last asked from, 0 if none.
         asked: u64,
+        /// Bit i is 1 where slot i of the held area is full.
+        held: u32,
     }
 
     /// A record that was opened; on a refusal a record of zeros.
@@ -176,11 +178,21 @@ structs! {
         refusal: u64,
         /// 1 where the end was heard and every message was delivered.
         complete: u8,
-        /// 1 where `first` to `last` are missing, else 0 and both 0.
+        /// How many ranges are missing.
         missing: u8,
-        /// The first number missing.
+        /// The first number of the first of them, 0 where there is none.
         first: u64,
-        /// The last number missing.
+        /// Its last number, 0 where there is none.
+        last: u64,
+    }
+
+    /// A missing range.
+    hp_range {
+        /// 0 or why it was refused.
+        refusal: u64,
+        /// Its first number, 0 where there is no such range.
+        first: u64,
+        /// Its last number, 0 where there is no such range.
         last: u64,
     }
 

@@ -5,15 +5,17 @@
 //! what a Rust program would call.
 //!
 //! ```
+//! use ordinary::held::AREA;
 //! use ordinary::kinds::Name;
 //! use ordinary::record::Record;
 //!
-//! let record = Record::open_ufo(Name(*b"8841      "))?;
-//! let datagram = b"S\0\0\0\x01\0\x01\0\x02HI";
-//! let mut tape = [0; 16];
-//! let taken = record.take(datagram, &mut tape)?;
-//! assert_eq!(&tape[..taken.bytes], b"\0\x02HI");
-//! assert_eq!(taken.record.next.0, 2);
+//! let mut record = Record::open_ufo(Name(*b"8841      "))?;
+//! let (mut area, mut tape) = (vec![0; AREA], [0; 16]);
+//! // message 2 comes before message 1, and is held until that is there
+//! record.take_in_place(&mut area, b"S\0\0\0\x02\0\x01\0\x01!", &mut tape)?;
+//! let delivered = record.take_in_place(&mut area, b"S\0\0\0\x01\0\x01\0\x02HI", &mut tape)?;
+//! assert_eq!(&tape[..delivered.bytes], b"\0\x02HI\0\x01!");
+//! assert_eq!(record.next.0, 3);
 //! # Ok::<(), ordinary::refusal::Refusal>(())
 //! ```
 //!
@@ -33,6 +35,12 @@
 //! - A Soup reject whose reason is a linefeed is refused in writing as 8, as in reading.
 //! - A UFO request has no bound but its bytes.
 //! - A MEMX-TCP length that is not how many bytes follow the header is 4.
+//! - What is wrong with a record's full slots is 10 wherever a record is given; what is wrong with the
+//!   area is 10 only where it is lent, in taking. Both come before the reader's refusals.
+//! - An area may be longer than 32 slots: what stands behind them is not looked at, and stays.
+//! - A held message is kept though the number comes again with other bytes; where it comes again in
+//!   a packet that delivers, the packet's own bytes go out and the slot falls free.
+//! - Freed slots keep their bytes, and an early message of over 1,470 bytes is thrown away.
 //! - Minus zero lies between 0 and any bound. The wait of 1000 while nothing was timed is held
 //!   between floor and ceiling too.
 //! - Asking refuses a rule or an elapsed time out of range (15) even if nothing is missing.
@@ -47,10 +55,12 @@ pub mod clock;
 mod decimal;
 mod fields;
 pub mod flat;
+pub mod held;
 pub mod kinds;
 pub mod lend;
 pub mod memx;
 pub mod memx_tcp;
+pub mod missing;
 pub mod record;
 pub mod refusal;
 pub mod soup;

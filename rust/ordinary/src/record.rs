@@ -1,12 +1,17 @@
 //! The session record: what a receiver has had, what it knows of, and what it lacks.
 
+mod news;
+
 use crate::blocks;
 use crate::clock::{Patience, Sheet};
+use crate::held::Held;
 use crate::kinds::{Name, Sequence, SessionId};
 use crate::memx;
+use crate::missing::Missing;
 use crate::refusal::Refusal;
 use crate::text;
-use crate::ufo::{self, Down};
+use crate::ufo;
+use news::News;
 
 /// The longest time since asking, in milliseconds, that is taken: a day.
 const LONGEST_ELAPSED: f64 = 86_400_000.0;
@@ -36,6 +41,8 @@ pub struct Record {
     pub ended: bool,
     /// The number last asked from, 0 if none.
     pub asked: Sequence,
+    /// Which slots of its area hold messages that came early.
+    pub held: Held,
 }
 
 /// What taking a datagram gave.
@@ -50,7 +57,7 @@ pub struct Taken {
 }
 
 /// What taking a datagram delivered.
-#[derive(Clone, Copy, Debug, PartialEq, Eq)]
+#[derive(Clone, Copy, Debug, Default, PartialEq, Eq)]
 pub struct Delivered {
     /// How many bytes, from the tape's start.
     pub bytes: usize,
@@ -63,8 +70,10 @@ pub struct Delivered {
 pub struct Standing {
     /// Whether the end was heard and every message was delivered.
     pub complete: bool,
-    /// The first and the last number missing, if any are.
-    pub missing: Option<(Sequence, Sequence)>,
+    /// How many ranges of numbers are missing; [`Record::missing`] hands them out.
+    pub missing: usize,
+    /// The first and the last number of the first range, if any is missing.
+    pub first: Option<(Sequence, Sequence)>,
 }
 
 /// What to ask now.
@@ -83,73 +92,6 @@ pub enum Asked {
         /// The record afterwards.
         record: Record,
     },
-}
-
-/// What a datagram tells, whichever protocol it came by.
-enum News<'a> {
-    /// Messages `first` to `last`.
-    Messages {
-        first: u64,
-        last: u64,
-        blocks: &'a [u8],
-    },
-    /// The highest number published so far.
-    Highest(u64),
-    /// The highest number that the ended session has.
-    End(u64),
-}
-
-impl News<'_> {
-    /// What a UFO datagram tells; the reader's refusals, then 16.
-    #[inline]
-    fn from_ufo(datagram: &[u8]) -> Result<News<'_>, Refusal> {
-        match ufo::read_down(datagram)? {
-            Down::Accept { .. } | Down::Reject { .. } => Err(Refusal::NotForRecord),
-            Down::Sequenced {
-                first, count: 0, ..
-            } => Ok(News::Highest(first.0 - 1)),
-            Down::Sequenced {
-                first,
-                count,
-                blocks,
-            } => Ok(News::messages(first, count, blocks)),
-            Down::End { total } => Ok(News::End(total)),
-        }
-    }
-
-    /// What a MEMX-UDP datagram tells about this session; the reader's refusals, then 11.
-    #[inline]
-    fn from_memx(datagram: &[u8], ours: SessionId) -> Result<News<'_>, Refusal> {
-        let (theirs, news) = match memx::read(datagram)? {
-            memx::Packet::Heartbeat {
-                session, highest, ..
-            } => (session, News::Highest(highest.0)),
-            memx::Packet::Shutdown {
-                session, highest, ..
-            } => (session, News::End(highest.0)),
-            memx::Packet::Sequenced {
-                session,
-                first,
-                count,
-                blocks,
-                ..
-            } => (session, News::messages(first, count, blocks)),
-        };
-        if theirs == ours {
-            Ok(news)
-        } else {
-            Err(Refusal::OtherSession)
-        }
-    }
-
-    #[inline]
-    fn messages(first: Sequence, count: u16, blocks: &[u8]) -> News<'_> {
-        News::Messages {
-            first: first.0,
-            last: first.0 + (u64::from(count) - 1),
-            blocks,
-        }
-    }
 }
 
 impl Record {
@@ -171,6 +113,7 @@ impl Record {
             top: Sequence(0),
             ended: false,
             asked: Sequence(0),
+            held: Held::default(),
         }
     }
 
@@ -183,15 +126,22 @@ impl Record {
         };
         let numbered = self.top.0 <= highest
             && (1..=self.top.0 + 1).contains(&self.next.0)
-            && self.asked <= self.next;
+            && self.asked <= self.next
+            && self.held.lies_within(self.next.0, self.top.0);
         (named && numbered).then_some(()).ok_or(Refusal::Broken)
     }
 
     /// Takes a datagram: what is next goes onto the tape, from its start, as blocks with their
-    /// length bytes. 10; the reader's refusals; 16; 11; 12; 9.
+    /// length bytes, and what was held behind it follows; what comes early is held in the area. 10;
+    /// the reader's refusals; 16; 11; 12; 9.
     #[inline]
-    pub fn take(mut self, datagram: &[u8], tape: &mut [u8]) -> Result<Taken, Refusal> {
-        let delivered = self.take_in_place(datagram, tape)?;
+    pub fn take(
+        mut self,
+        area: &mut [u8],
+        datagram: &[u8],
+        tape: &mut [u8],
+    ) -> Result<Taken, Refusal> {
+        let delivered = self.take_in_place(area, datagram, tape)?;
         Ok(Taken {
             bytes: delivered.bytes,
             messages: delivered.messages,
@@ -204,67 +154,92 @@ impl Record {
     #[inline]
     pub fn take_in_place(
         &mut self,
+        area: &mut [u8],
         datagram: &[u8],
         tape: &mut [u8],
     ) -> Result<Delivered, Refusal> {
         self.check()?;
+        self.held.check(area)?;
         let news = match self.session {
             Session::Ufo(_) => News::from_ufo(datagram)?,
             Session::Memx(session) => News::from_memx(datagram, session)?,
         };
-        let (top, end) = match news {
-            News::Messages { last, .. } => (last, false),
-            News::Highest(top) => (top, false),
-            News::End(total) => (total, true),
-        };
+        let (top, end) = news.top();
         if (self.ended && top > self.top.0) || (end && top < self.top.0) {
             return Err(Refusal::Contradiction);
         }
-        let delivered = match news {
-            News::Messages {
-                first,
-                last,
-                blocks,
-            } if (first..=last).contains(&self.next.0) => {
-                let due = blocks::after(blocks, self.next.0 - first)?;
-                let place = tape.get_mut(..due.len()).ok_or(Refusal::Room)?;
-                place.copy_from_slice(due);
-                Delivered {
-                    bytes: due.len(),
-                    messages: last - self.next.0 + 1,
-                }
+        let mut delivered = Delivered::default();
+        if let News::Messages {
+            first,
+            last,
+            blocks,
+        } = news
+        {
+            if first > self.next.0 {
+                self.held.hold(area, self.next.0, first, blocks);
+            } else if last >= self.next.0 {
+                let own = blocks::after(blocks, self.next.0 - first)?;
+                delivered = self.deliver(own, last, area, tape)?;
             }
-            _ => Delivered {
-                bytes: 0,
-                messages: 0,
-            },
-        };
-        self.next.0 += delivered.messages;
+        }
         self.top = self.top.max(Sequence(top));
         self.ended |= end;
         Ok(delivered)
     }
 
+    /// Puts a packet's own messages, the next one to `last`, onto the tape, and behind them what is
+    /// held from there on; 9, with nothing changed, if all of them together don't fit.
+    #[inline]
+    fn deliver(
+        &mut self,
+        own: &[u8],
+        last: u64,
+        area: &[u8],
+        tape: &mut [u8],
+    ) -> Result<Delivered, Refusal> {
+        let room = tape.split_at_mut_checked(own.len());
+        let (place, behind) = room.ok_or(Refusal::Room)?;
+        let mut delivered = Delivered {
+            bytes: own.len(),
+            messages: last - self.next.0 + 1,
+        };
+        if self.held != Held::default() {
+            let (bytes, messages) = self.held.release(area, self.next.0, last, behind)?;
+            delivered.bytes += bytes;
+            delivered.messages += messages;
+        }
+        place.copy_from_slice(own);
+        self.next.0 += delivered.messages;
+        Ok(delivered)
+    }
+
+    /// The ranges of numbers that are missing, from the first on; 10.
+    pub fn missing(&self) -> Result<Missing, Refusal> {
+        self.check()?;
+        Ok(Missing::between(self.next, self.top, self.held))
+    }
+
     /// Whether the record is complete, and what is missing; 10.
     pub fn standing(&self) -> Result<Standing, Refusal> {
-        self.check()?;
-        let missing = (self.next <= self.top).then_some((self.next, self.top));
+        let mut ranges = self.missing()?;
+        let first = ranges.next();
         Ok(Standing {
-            complete: self.ended && missing.is_none(),
-            missing,
+            complete: self.ended && first.is_none(),
+            missing: usize::from(first.is_some()) + ranges.count(),
+            first,
         })
     }
 
     /// What to ask now, `elapsed` milliseconds after asking last: nothing if nothing is missing,
-    /// a request if none was made from this number yet or the wait is over. 10 for the record or
-    /// the sheet; then 15.
+    /// a request for the first missing range if none was made from its number yet or the wait is
+    /// over. 10 for the record or the sheet; then 15.
     pub fn ask(self, sheet: &Sheet, patience: &Patience, elapsed: f64) -> Result<Asked, Refusal> {
-        let standing = self.standing()?;
+        let first_missing = self.missing()?.next();
         let wait = patience.wait(sheet)?;
         if !(0.0..=LONGEST_ELAPSED).contains(&elapsed) {
             return Err(Refusal::Range);
         }
-        let Some((first, last)) = standing.missing else {
+        let Some((first, last)) = first_missing else {
             return Ok(Asked::Nothing);
         };
         if self.asked == first && wait.is_none_or(|wait| elapsed < wait) {

@@ -354,8 +354,9 @@ fn adding_refuses_as_the_reader_would_refuse_the_packets_before_and_after() {
 }
 
 #[test]
-fn a_refused_datagram_leaves_record_and_tape_alone() {
+fn a_refused_datagram_leaves_record_area_and_tape_alone() {
     let mut dice = Dice::seeded(16);
+    let mut area = common::area();
     let mut record = Record::open_ufo(Name(*b"8841      ")).unwrap();
     let mut seen = [0; 17];
     for turn in 0..10_000 {
@@ -372,8 +373,8 @@ fn a_refused_datagram_leaves_record_and_tape_alone() {
         };
         damage(&mut datagram, &mut dice);
         let mut tape = [0xee; 30];
-        let before = record;
-        match record.take_in_place(&datagram, &mut tape) {
+        let (before, area_before) = (record, common::copied(&area));
+        match record.take_in_place(&mut area, &datagram, &mut tape) {
             Ok(taken) => {
                 assert_eq!(record.check(), Ok(()));
                 assert_eq!(record.next.0 - before.next.0, taken.messages);
@@ -381,10 +382,13 @@ fn a_refused_datagram_leaves_record_and_tape_alone() {
                 assert!(tape[taken.bytes..].iter().all(|&byte| byte == 0xee));
                 let delivered = ordinary::blocks::Blocks::over(&tape[..taken.bytes]);
                 assert_eq!(delivered.count() as u64, taken.messages);
+                let early = record.held != before.held && taken.messages == 0;
+                assert!(area == area_before || early, "only what is held is laid");
                 seen[0] += 1;
             }
             Err(refusal) => {
                 assert_eq!((record, tape), (before, [0xee; 30]));
+                assert!(area == area_before, "a refusal changed the area");
                 seen[usize::from(refusal.number())] += 1;
             }
         }

@@ -2,7 +2,7 @@
 
 mod common;
 
-use common::{blocks, extended, memx, memx_data, soup_a, soup_l, ufo_e, ufo_numbered, ufo_s};
+use common::{area, blocks, extended, memx, memx_data, soup_a, soup_l, ufo_e, ufo_numbered, ufo_s};
 use ordinary::flat::*;
 
 /// The answer of a reader that refuses.
@@ -644,6 +644,7 @@ const RECORD: hp_record = hp_record {
     next: 3,
     top: 5,
     asked: 0,
+    held: 0,
 };
 
 const BROADCAST: hp_record = hp_record {
@@ -676,7 +677,7 @@ fn opening() {
 #[test]
 fn taking_keeps_what_the_style_does_not_look_at() {
     let mut out = [0xee; 100];
-    let taken = hp_take(RECORD, &ufo_numbered(2, 3), &mut out);
+    let taken = hp_take(RECORD, &mut area(), &ufo_numbered(2, 3), &mut out);
     let delivered = common::numbered(3, 2);
     let after = hp_taken {
         refusal: 0,
@@ -691,7 +692,7 @@ fn taking_keeps_what_the_style_does_not_look_at() {
     let datagram = memx_data(1234, 2, &[b"two", b"three", b"four"]);
     let datagram = extended(&datagram, b"\0\x01\0\0");
     let mut out = [0xee; 100];
-    let taken = hp_take(BROADCAST, &datagram, &mut out);
+    let taken = hp_take(BROADCAST, &mut area(), &datagram, &mut out);
     let delivered = blocks(&[b"three", b"four"]);
     let after = hp_taken {
         refusal: 0,
@@ -706,7 +707,7 @@ fn taking_keeps_what_the_style_does_not_look_at() {
     assert_eq!(out[..delivered.len()], delivered);
     assert_eq!(out[delivered.len()..], [0xee; 100][delivered.len()..]);
 
-    let taken = hp_take(BROADCAST, &memx(1, 1234, 9), &mut []);
+    let taken = hp_take(BROADCAST, &mut area(), &memx(1, 1234, 9), &mut []);
     let after = hp_taken {
         record: hp_record {
             top: 9,
@@ -744,15 +745,15 @@ fn taking_hands_the_record_back_on_a_refusal() {
         (ended, ufo_e(6), 12),
         (ended, ufo_numbered(3, 1), 9),
     ] {
-        let mut out = [0xee; 8];
-        let taken = hp_take(record, &datagram, &mut out);
+        let (mut lent, mut out) = (area(), [0xee; 8]);
+        let taken = hp_take(record, &mut lent, &datagram, &mut out);
         let refused = hp_taken {
             refusal,
             record,
             ..hp_taken::default()
         };
         assert_eq!(taken, refused);
-        assert_eq!(out, [0xee; 8]);
+        assert_eq!((lent, out), (area(), [0xee; 8]));
     }
 }
 

@@ -2,8 +2,11 @@
 
 mod common;
 
-use common::{extended, memx, memx_data, number, numbered, ufo_e, ufo_numbered, ufo_s};
+use common::{
+    area, extended, held, memx, memx_data, number, numbered, take_into, ufo_e, ufo_numbered, ufo_s,
+};
 use ordinary::clock::{Patience, Sheet};
+use ordinary::held::Held;
 use ordinary::kinds::{Name, Sequence, SessionId};
 use ordinary::record::{Asked, Delivered, Record, Session, Standing};
 use ordinary::refusal::Refusal;
@@ -19,22 +22,14 @@ fn record(session: Session, next: u64, top: u64, ended: bool, asked: u64) -> Rec
         top: Sequence(top),
         ended,
         asked: Sequence(asked),
+        held: Held::default(),
     }
 }
 
 /// Takes a datagram with room to spare: the record afterwards and what was delivered.
-fn take(record: Record, datagram: &[u8]) -> Result<(Record, Vec<u8>, u64), u8> {
-    let mut tape = [0xee; 2000];
-    match record.take(datagram, &mut tape) {
-        Ok(taken) => {
-            assert!(tape[taken.bytes..].iter().all(|&byte| byte == 0xee));
-            Ok((taken.record, tape[..taken.bytes].to_vec(), taken.messages))
-        }
-        Err(refusal) => {
-            assert_eq!(tape, [0xee; 2000]);
-            Err(refusal.number())
-        }
-    }
+fn take(mut record: Record, datagram: &[u8]) -> Result<(Record, Vec<u8>, u64), u8> {
+    let (tape, messages) = take_into(&mut record, &mut area(), datagram)?;
+    Ok((record, tape, messages))
 }
 
 #[test]
@@ -159,9 +154,9 @@ fn contradictions() {
 #[test]
 fn contradiction_comes_before_room() {
     let ended = record(UFO, 3, 5, true, 0);
-    let taken = ended.take(&ufo_numbered(3, 4), &mut []);
+    let taken = ended.take(&mut area(), &ufo_numbered(3, 4), &mut []);
     assert_eq!(taken, Err(Refusal::Contradiction));
-    let taken = ended.take(&ufo_numbered(3, 3), &mut []);
+    let taken = ended.take(&mut area(), &ufo_numbered(3, 3), &mut []);
     assert_eq!(taken, Err(Refusal::Room));
 }
 
@@ -196,18 +191,21 @@ fn heartbeats_and_ends_move_the_top_only() {
 #[test]
 fn data_before_at_and_after_the_next_number() {
     let given = record(UFO, 5, 6, false, 5);
-    for (first, count, delivered, next, top) in [
-        (1, 4, None, 5, 6),
-        (1, 5, Some((5, 1)), 6, 6),
-        (4, 1, None, 5, 6),
-        (4, 2, Some((5, 1)), 6, 6),
-        (2, 6, Some((5, 3)), 8, 7),
-        (5, 1, Some((5, 1)), 6, 6),
-        (5, 9, Some((5, 9)), 14, 13),
-        (6, 1, None, 5, 6),
-        (6, 4, None, 5, 9),
+    for (first, count, delivered, next, top, early) in [
+        (1, 4, None, 5, 6, &[][..]),
+        (1, 5, Some((5, 1)), 6, 6, &[]),
+        (4, 1, None, 5, 6, &[]),
+        (4, 2, Some((5, 1)), 6, 6, &[]),
+        (2, 6, Some((5, 3)), 8, 7, &[]),
+        (5, 1, Some((5, 1)), 6, 6, &[]),
+        (5, 9, Some((5, 9)), 14, 13, &[]),
+        (6, 1, None, 5, 6, &[6]),
+        (6, 4, None, 5, 9, &[6, 7, 8, 9]),
     ] {
-        let after = record(UFO, next, top, false, 5);
+        let after = Record {
+            held: held(early),
+            ..record(UFO, next, top, false, 5)
+        };
         let (bytes, messages) = delivered.map_or((vec![], 0), |(first, count)| {
             (numbered(first, count), u64::from(count))
         });
@@ -232,19 +230,22 @@ fn a_longer_header_is_skipped_and_the_blocks_are_delivered_from_the_next_number_
         &[0xff; 237],
         &[0; 237],
     ] {
-        for (first, count, delivered, top) in [
-            (1, 4, 5..5, 6),
-            (1, 5, 5..6, 6),
-            (2, 6, 5..8, 7),
-            (5, 1, 5..6, 6),
-            (5, 5, 5..10, 9),
-            (6, 1, 5..5, 6),
-            (6, 4, 5..5, 9),
+        for (first, count, delivered, top, early) in [
+            (1, 4, 5..5, 6, &[][..]),
+            (1, 5, 5..6, 6, &[]),
+            (2, 6, 5..8, 7, &[]),
+            (5, 1, 5..6, 6, &[]),
+            (5, 5, 5..10, 9, &[]),
+            (6, 1, 5..5, 6, &[6]),
+            (6, 4, 5..5, 9, &[6, 7, 8, 9]),
         ] {
             let sent = &messages[first - 1..first - 1 + count];
             let datagram = extended(&memx_data(7, first as u64, sent), extra);
             let due = common::blocks(&messages[delivered.start - 1..delivered.end - 1]);
-            let after = record(MEMX, delivered.end as u64, top, false, 5);
+            let after = Record {
+                held: held(early),
+                ..record(MEMX, delivered.end as u64, top, false, 5)
+            };
             let had = delivered.len() as u64;
             assert_eq!(
                 take(given, &datagram),
@@ -266,10 +267,11 @@ fn a_longer_header_needs_no_room() {
 fn needs_the_room_of_two_and_three(given: Record, datagram: &[u8]) {
     let due = common::blocks(&[b"two", b"three"]);
     let mut tape = vec![0xee; due.len() - 1];
-    assert_eq!(given.take(datagram, &mut tape), Err(Refusal::Room));
+    let refused = given.take(&mut area(), datagram, &mut tape);
+    assert_eq!(refused, Err(Refusal::Room));
     assert!(tape.iter().all(|&byte| byte == 0xee));
     tape.push(0xee);
-    let taken = given.take(datagram, &mut tape).unwrap();
+    let taken = given.take(&mut area(), datagram, &mut tape).unwrap();
     assert_eq!((taken.bytes, taken.messages), (due.len(), 2));
     assert_eq!(tape, due);
 }
@@ -301,38 +303,47 @@ fn room_is_compared_with_what_is_delivered() {
     let datagram = ufo_s(1, &[b"long and had already", b"two", b"three"]);
     needs_the_room_of_two_and_three(given, &datagram);
     // what delivers nothing needs no room
-    let late = given.take(&ufo_numbered(1, 1), &mut []).unwrap();
+    let late = given.take(&mut area(), &ufo_numbered(1, 1), &mut []);
+    let late = late.unwrap();
     assert_eq!((late.bytes, late.record), (0, given));
+    let early = given.take(&mut area(), &ufo_numbered(3, 1), &mut []);
+    let early = early.unwrap();
+    assert_eq!((early.bytes, early.record.held), (0, held(&[3])));
 }
 
 #[test]
 fn in_place_the_record_changes_only_if_the_datagram_is_taken() {
     let mut lent = record(UFO, 1, 0, false, 0);
     let before = lent;
-    let mut tape = [0; 100];
-    assert_eq!(number(lent.take_in_place(b"JA", &mut tape)), 16);
-    assert_eq!(number(lent.take_in_place(&ufo_numbered(1, 1), &mut [])), 9);
+    let (mut area, mut tape) = (area(), [0; 100]);
+    assert_eq!(number(lent.take_in_place(&mut area, b"JA", &mut tape)), 16);
+    let no_room = lent.take_in_place(&mut area, &ufo_numbered(1, 1), &mut []);
+    assert_eq!(number(no_room), 9);
     assert_eq!(lent, before);
-    let by_value = lent.take(&ufo_numbered(1, 2), &mut tape).unwrap();
-    assert_eq!(lent, before);
-    let in_place = lent.take_in_place(&ufo_numbered(1, 2), &mut tape);
-    assert_eq!(
-        in_place,
-        Ok(Delivered {
-            bytes: by_value.bytes,
-            messages: by_value.messages
-        })
-    );
-    assert_eq!(lent, by_value.record);
-    assert_ne!(lent, before);
+    for datagram in [ufo_numbered(3, 1), ufo_numbered(1, 2)] {
+        let before = lent;
+        let by_value = lent.take(&mut area.clone(), &datagram, &mut tape).unwrap();
+        assert_eq!(lent, before);
+        let in_place = lent.take_in_place(&mut area, &datagram, &mut tape);
+        assert_eq!(
+            in_place,
+            Ok(Delivered {
+                bytes: by_value.bytes,
+                messages: by_value.messages
+            })
+        );
+        assert_eq!(lent, by_value.record);
+        assert_ne!(lent, before);
+    }
 }
 
 #[test]
 fn standing() {
-    let stands = |complete, missing: Option<(u64, u64)>| {
+    let stands = |complete, first: Option<(u64, u64)>| {
         Ok(Standing {
             complete,
-            missing: missing.map(|(first, last)| (Sequence(first), Sequence(last))),
+            missing: usize::from(first.is_some()),
+            first: first.map(|(first, last)| (Sequence(first), Sequence(last))),
         })
     };
     for session in [UFO, MEMX] {

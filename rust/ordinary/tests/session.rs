@@ -2,12 +2,13 @@
 
 mod common;
 
-use common::{blocks, extended, memx, memx_data, Dice};
+use common::had::{has_just, ranges, Had};
+use common::{area, blocks, extended, memx, memx_data, take_into, Dice};
 use ordinary::clock::{Patience, Sheet};
 use ordinary::kinds::{Name, Sequence, SessionId};
 use ordinary::lend::Log;
-use ordinary::record::{Asked, Record, Standing};
-use ordinary::ufo::{self, read_message, read_up, Up};
+use ordinary::record::{Asked, Record};
+use ordinary::ufo::{self, read_down, read_message, read_up, Down, Up};
 
 /// A line one way: what goes in comes out in any order, more than once, or never.
 struct Line {
@@ -52,7 +53,9 @@ struct Desk {
     log: Log,
     bytes: Vec<u8>,
     record: Record,
+    area: Vec<u8>,
     tape: Vec<u8>,
+    had: Had,
     down: Line,
     up: Line,
     since_asked: f64,
@@ -65,7 +68,9 @@ impl Desk {
             log: Log::default(),
             bytes: vec![0; 60_000],
             record: Record::open_ufo(Name(*b"8841      ")).unwrap(),
+            area: area(),
             tape: Vec::new(),
+            had: Had::nothing_from(1),
             down: Line::losing(loss),
             up: Line::losing(loss),
             since_asked: 0.0,
@@ -115,10 +120,15 @@ impl Desk {
     /// The recorder takes what reaches it; none of it may be refused.
     fn listen(&mut self) {
         while let Some(datagram) = self.down.receive(&mut self.dice) {
-            let mut tape = [0; ufo::LIMIT];
-            let taken = self.record.take_in_place(&datagram, &mut tape).unwrap();
-            self.tape.extend(&tape[..taken.bytes]);
+            let (tape, _) = take_into(&mut self.record, &mut self.area, &datagram).unwrap();
+            self.tape.extend(tape);
             assert_eq!(self.tape, self.bytes[..self.tape.len()]);
+            match read_down(&datagram).unwrap() {
+                Down::Sequenced { first, count, .. } => self.had.arrive(first.0, count.into()),
+                Down::End { total } => self.had.arrive(total + 1, 0),
+                other => panic!("{other:?}"),
+            }
+            has_just(&self.record, &self.had);
         }
         self.since_asked += 40.0;
     }
@@ -135,7 +145,9 @@ impl Desk {
             record,
         } = asked.unwrap()
         {
+            let (_, last) = self.had.missing()[0];
             assert_eq!(first, self.record.next);
+            assert_eq!(u64::from(count), last - first.0 + 1);
             self.record = record;
             self.since_asked = 0.0;
             let mut slip = [0; 9];
@@ -148,12 +160,6 @@ impl Desk {
         self.serve();
         self.listen();
         self.ask();
-    }
-
-    /// The number of the first message that was not delivered, counted on the tape itself.
-    fn first_lacking(&self) -> u64 {
-        let delivered = ordinary::blocks::Blocks::over(&self.tape);
-        1 + delivered.map(Result::unwrap).count() as u64
     }
 }
 
@@ -184,8 +190,7 @@ fn a_line_that_loses_still_brings_everything_in_the_end() {
 
 #[test]
 fn a_line_that_is_cut_leaves_exactly_the_missing_numbers() {
-    let mut lacking = 0;
-    let mut had = 0;
+    let (mut lacking, mut in_pieces, mut had) = (0, 0, 0);
     for seed in 100..160 {
         let mut desk = Desk::new(seed, 3);
         for _ in 0..40 {
@@ -201,74 +206,65 @@ fn a_line_that_is_cut_leaves_exactly_the_missing_numbers() {
             desk.beat();
             desk.listen();
         }
-        let first = desk.first_lacking();
-        had += first - 1;
-        let standing = desk.record.standing().unwrap();
-        if first > 40 {
-            assert_eq!(
-                standing,
-                Standing {
-                    complete: true,
-                    missing: None
-                }
-            );
-        } else {
-            lacking += 1;
-            assert_eq!(
-                standing,
-                Standing {
-                    complete: false,
-                    missing: Some((Sequence(first), Sequence(40)))
-                }
-            );
-        }
+        let missing = ranges(&desk.record);
+        lacking += usize::from(!missing.is_empty());
+        in_pieces += usize::from(missing.len() > 1);
+        had += desk.had.next - 1 + desk.had.held().len() as u64;
+        assert_eq!((desk.had.top, desk.record.ended), (40, true));
     }
     assert!(lacking > 10, "the line was hardly ever cut in time");
-    assert!(had > 60 * 20, "hardly anything was delivered before");
+    assert!(in_pieces > 5, "hardly ever was more than one range missing");
+    assert!(had > 60 * 20, "hardly anything arrived before");
+}
+
+/// The messages, two by two, each pair with a heartbeat behind it and the shutdown at the end, as they
+/// go over a line that loses one in thirty; the shutdown is not lost.
+fn broadcast(messages: &[Vec<u8>], extra: &[u8], shuffle: usize, dice: &mut Dice) -> Line {
+    let mut line = Line::losing(30);
+    line.shuffle = shuffle;
+    for (first, pair) in (1..).step_by(2).zip(messages.chunks(2)) {
+        let pair: Vec<&[u8]> = pair.iter().map(Vec::as_slice).collect();
+        let pair = memx_data(7, first, &pair);
+        line.send(&extended(&pair, extra), dice);
+        line.send(&extended(&memx(0, 7, first + 1), extra), dice);
+    }
+    line.loss = usize::MAX;
+    let shutdown = memx(1, 7, messages.len() as u64);
+    line.send(&extended(&shutdown, extra), dice);
+    line
 }
 
 #[test]
-fn a_broadcast_that_loses_lacks_everything_from_the_first_hole() {
-    let mut complete = 0;
+fn a_broadcast_that_loses_lacks_just_the_holes_while_they_are_near() {
+    let messages: Vec<Vec<u8>> = (1..=50u8).map(|number| vec![number; 3]).collect();
+    let lent: Vec<&[u8]> = messages.iter().map(Vec::as_slice).collect();
+    let (mut complete, mut in_pieces) = (0, 0);
     for seed in 200..300 {
         let mut dice = Dice::seeded(seed);
-        let mut line = Line::losing(30);
-        line.shuffle = 1 + seed as usize % 2;
-        let messages: Vec<Vec<u8>> = (1..=50u8).map(|number| vec![number; 3]).collect();
         // two broadcasters in four have a longer header
         let extra = &[0, 1, 0, 0, 0xff][..seed as usize / 2 % 2 * 5];
-        for (first, pair) in (1..).step_by(2).zip(messages.chunks(2)) {
-            let pair: Vec<&[u8]> = pair.iter().map(Vec::as_slice).collect();
-            let pair = memx_data(7, first, &pair);
-            line.send(&extended(&pair, extra), &mut dice);
-            line.send(&extended(&memx(0, 7, first + 1), extra), &mut dice);
-        }
-        line.loss = usize::MAX;
-        line.send(&extended(&memx(1, 7, 50), extra), &mut dice);
-
-        let mut record = Record::open_memx(SessionId(7));
+        let mut line = broadcast(&messages, extra, 1 + seed as usize % 3, &mut dice);
+        let (mut record, mut area) = (Record::open_memx(SessionId(7)), area());
         let mut delivered = Vec::new();
-        let mut had = 0;
+        let mut had = Had::nothing_from(1);
         while !line.under_way.is_empty() {
             if let Some(datagram) = line.receive(&mut dice) {
-                // a pair that carries on from what was had, by the number in its eighteenth byte
-                if datagram[0] == 2 && usize::from(datagram[17]) == had + 1 {
-                    had += 2;
+                let (tape, _) = take_into(&mut record, &mut area, &datagram).unwrap();
+                delivered.extend(tape);
+                // the number is in the eighteenth byte: a pair's first, or the highest published
+                let number = u64::from(datagram[17]);
+                match datagram[0] {
+                    2 => had.arrive(number, 2),
+                    _ => had.arrive(number + 1, 0),
                 }
-                let mut tape = [0; 1472];
-                let taken = record.take_in_place(&datagram, &mut tape).unwrap();
-                delivered.extend_from_slice(&tape[..taken.bytes]);
+                has_just(&record, &had);
             }
         }
-        let lent: Vec<&[u8]> = messages[..had].iter().map(Vec::as_slice).collect();
-        assert_eq!(delivered, blocks(&lent));
-        let missing = (had < 50).then_some((Sequence(had as u64 + 1), Sequence(50)));
-        let standing = Standing {
-            complete: had == 50,
-            missing,
-        };
-        assert_eq!(record.standing(), Ok(standing), "seed {seed}");
-        complete += u32::from(had == 50);
+        assert_eq!(delivered, blocks(&lent[..had.next as usize - 1]));
+        assert!(record.ended && had.top == 50, "seed {seed}");
+        complete += usize::from(had.next == 51);
+        in_pieces += usize::from(had.missing().len() > 1);
     }
     assert!((10..90).contains(&complete), "{complete} of 100 complete");
+    assert!(in_pieces > 10, "{in_pieces} lack more than one range");
 }

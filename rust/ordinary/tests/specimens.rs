@@ -1,8 +1,10 @@
-//! The specimen book of document 01, entry by entry.
+//! The specimen book of document 01, entry by entry, as document 02 amends it.
 
 mod common;
 
-use common::{blocks, memx, memx_data, number, soup_a, ufo_e, ufo_numbered, ufo_s};
+use common::{
+    area, blocks, memx, memx_data, number, soup_a, take_into, ufo_e, ufo_numbered, ufo_s,
+};
 use ordinary::blocks::{next_block, Blocks};
 use ordinary::clock::{Patience, Sheet};
 use ordinary::kinds::{Name, Sequence, SessionId};
@@ -21,13 +23,21 @@ fn fresh() -> Record {
 fn missing(first: u64, last: u64) -> Standing {
     Standing {
         complete: false,
-        missing: Some((Sequence(first), Sequence(last))),
+        missing: 1,
+        first: Some((Sequence(first), Sequence(last))),
     }
 }
 
+/// Nothing is missing, and no end was heard.
+const SILENT: Standing = Standing {
+    complete: false,
+    missing: 0,
+    first: None,
+};
+
 const COMPLETE: Standing = Standing {
     complete: true,
-    missing: None,
+    ..SILENT
 };
 
 #[test]
@@ -58,7 +68,7 @@ fn two_messages_one_of_them_empty() {
 fn an_end_of_nothing_completes_a_fresh_record() {
     let packet = [0x45, 0, 0, 0, 0];
     assert_eq!(read_down(&packet), Ok(Down::End { total: 0 }));
-    let taken = fresh().take(&packet, &mut []).unwrap();
+    let taken = fresh().take(&mut area(), &packet, &mut []).unwrap();
     assert_eq!((taken.bytes, taken.messages), (0, 0));
     assert_eq!(taken.record.standing(), Ok(COMPLETE));
 }
@@ -101,19 +111,13 @@ fn a_request_for_two_messages_from_3() {
 fn a_memx_heartbeat_before_anything_was_published() {
     let record = Record::open_memx(SessionId(7));
     let mut packet = memx(0, 7, 0);
-    let taken = record.take(&packet, &mut []).unwrap();
+    let taken = record.take(&mut area(), &packet, &mut []).unwrap();
     assert_eq!(taken.record, record);
     assert_eq!(taken.record.top, Sequence(0));
-    assert_eq!(
-        taken.record.standing(),
-        Ok(Standing {
-            complete: false,
-            missing: None
-        })
-    );
+    assert_eq!(taken.record.standing(), Ok(SILENT));
     packet[1] = 17;
     assert_eq!(memx_udp::read(&packet), Err(Refusal::Form));
-    assert_eq!(number(record.take(&packet, &mut [])), 5);
+    assert_eq!(number(record.take(&mut area(), &packet, &mut [])), 5);
 }
 
 #[test]
@@ -159,13 +163,8 @@ fn soup_login_accepted() {
 
 #[test]
 fn a_session_from_its_first_packet_to_its_last() {
-    let mut record = fresh();
-    let mut tape = [0; 1472];
-    let mut take = |record: &mut Record, packet: &[u8]| {
-        record
-            .take_in_place(packet, &mut tape)
-            .map(|taken| (tape[..taken.bytes].to_vec(), taken.messages))
-    };
+    let (mut record, mut area) = (fresh(), area());
+    let mut take = |record: &mut Record, packet: &[u8]| take_into(record, &mut area, packet);
 
     let delivered = take(&mut record, &ufo_numbered(1, 2));
     assert_eq!(delivered, Ok((common::numbered(1, 2), 2)));
@@ -173,23 +172,21 @@ fn a_session_from_its_first_packet_to_its_last() {
 
     assert_eq!(take(&mut record, &ufo_numbered(5, 1)), Ok((vec![], 0)));
     assert_eq!((record.next, record.top), (Sequence(3), Sequence(5)));
-    assert_eq!(record.standing(), Ok(missing(3, 5)));
+    assert_eq!(record.held, common::held(&[5]));
+    assert_eq!(record.standing(), Ok(missing(3, 4)));
 
     let delivered = take(&mut record, &ufo_numbered(2, 3));
-    assert_eq!(delivered, Ok((common::numbered(3, 2), 2)));
-    assert_eq!((record.next, record.top), (Sequence(5), Sequence(5)));
+    assert_eq!(delivered, Ok((common::numbered(3, 3), 3)));
+    assert_eq!((record.next, record.top), (Sequence(6), Sequence(5)));
+    assert_eq!(record.held, common::held(&[]));
+    assert_eq!(record.standing(), Ok(SILENT));
 
     assert_eq!(take(&mut record, &ufo_e(5)), Ok((vec![], 0)));
-    assert_eq!(record.standing(), Ok(missing(5, 5)));
-
-    let delivered = take(&mut record, &ufo_numbered(5, 1));
-    assert_eq!(delivered, Ok((common::numbered(5, 1), 1)));
     assert_eq!(record.standing(), Ok(COMPLETE));
 
     let complete = record;
-    assert_eq!(take(&mut record, &ufo_e(4)), Err(Refusal::Contradiction));
-    let heartbeat = take(&mut record, &ufo_s(9, &[]));
-    assert_eq!(heartbeat, Err(Refusal::Contradiction));
+    assert_eq!(take(&mut record, &ufo_e(4)), Err(12));
+    assert_eq!(take(&mut record, &ufo_s(9, &[])), Err(12));
     assert_eq!(take(&mut record, &ufo_s(3, &[])), Ok((vec![], 0)));
     assert_eq!(record, complete);
 }

@@ -1,4 +1,4 @@
--- `take_lent` meets its contract: a walk of its MIR, by hand. The borrow of the record is opened, the record is copied out, `take` is called on the copy with the two slices as they were lent, and the match on the answer either stores the record afterwards or lets the one that lies there be. Each arm closes the borrow.
+-- `take_lent` meets its contract: a walk of its MIR, by hand. The borrow of the record is opened, the record is copied out, `take` is called on the copy with the three slices as they were lent, and the match on the answer either stores the record afterwards or lets the one that lies there be. Each arm closes the borrow.
 -- All that the proof knows of `take` is that it meets its contract, and the walk never looks inside a record.
 -- Assumes nothing.
 use mathlib.Core.Path.{_≡_, refl, sym, ap, subst, _∙_}
@@ -19,7 +19,7 @@ use prog.Wp.{Heap, Calls, Loops, WpFn, Tables}
 use ghost.Atoms.{Atoms, sem}
 use contract.Monad.{Fun, fact}
 use contract.Running.{givenOf, tables, tablesOf}
-use types.Kit.{Given, ‵, raw, some, later, _⊛_, ⋆, _$_, _∵_, !, qed, by, move, keep, drop, use1, use2, use3, split, join, pick, rewrite, fsplit, fsplit3, fjoin, fjoin3, feqL, feqI, suffices, frame, await, done}
+use types.Kit.{Given, Item, ‵, raw, some, later, _⊛_, ⋆, _$_, _∵_, !, qed, by, move, keep, drop, use1, use2, use3, split, join, pick, rewrite, fsplit, fsplit3, fjoin, fjoin3, feqL, feqI, suffices, frame, await, done}
 use types.Run.{look, look-raw, init, store-raw, stop, hop, fld, from, load, addr, of-opd, and-then, no-more, assigns, assigns-last, skips, land, returns, enter, alloc1, alloc0, params1, pass1, pass0}
 use types.Part.{agg, whole, sub, look-in}
 use types.Match.{live, vrt, in-variant, look-tag, by-variants}
@@ -64,7 +64,7 @@ use Rattle.in_place.proofs.take_lent.Statement as stated
 use Rattle.in_place.proofs.take_lent.Code as code
 
 abbrev stayed : Stays (f.ended .signature .params) (f.ended .kept)
-stayed = (stay-ref (0 ∷ []) tt (plain (λ _. R.the-row)), (stay-none-slice (1 ∷ []) tt (plain (λ _. u8)) yes, (gave-slice (2 ∷ []) tt (plain (λ _. u8)), tt)))
+stayed = (stay-ref (0 ∷ []) tt (plain (λ _. R.the-row)), (gave-slice (1 ∷ []) tt (plain (λ _. u8)), (stay-none-slice (2 ∷ []) tt (plain (λ _. u8)) yes, (gave-slice (3 ∷ []) tt (plain (λ _. u8)), tt))))
 
 -- the contract that the proof cites
 abbrev Take : {M : Type 1} (𝓤 : URA M) (H : Heap 𝓤) (A : Atoms 𝓤) (mem : Memory → SProp 𝓤) (run : Routine → Fun 𝓤) → Contract 𝓤
@@ -115,120 +115,131 @@ after-is : (was : Record) (r : Taken) (w : Val) → Is T.the-row r (w ∷ []) �
 after-is was (Refused n) w is one = absurd (omega (arith, one))
 after-is was (Took bytes messages after) w is one = fits-so after _ (EL.owed T.the-type T′.the-laws (Took bytes messages after) _ is .1 .1 .0)
 
-module _ {M : Type 1} (𝓤 : URA M) (H : Heap 𝓤) (A : Atoms 𝓤) (W : Given 𝓤 H A) (at-mem : Memory → SProp 𝓤) (run : Routine → Fun 𝓤) (κ κ₁ κ₂ : Lft) (q q₁ q₂ : Share) (b o : ℕ) (γ : GName) (h : Record) (x : RefT (List ℕ)) (b′ o′ : ℕ) (γ′ : GName) (ys : List ℕ) where
-  -- the output, and the machine values of the two slices
-  abbrev z : RefT (List ℕ)
-  z = record { ptr = (b′, o′); name = γ′; now = ys }
-
+module _ {M : Type 1} (𝓤 : URA M) (H : Heap 𝓤) (A : Atoms 𝓤) (W : Given 𝓤 H A) (at-mem : Memory → SProp 𝓤) (run : Routine → Fun 𝓤) (κ κ₁ κ₂ κ₃ : Lft) (q q₁ q₂ q₃ : Share) (b o : ℕ) (γ : GName) (h : Record) (x y z : RefT (List ℕ)) where
+  -- the machine values of the three slices: the area, the datagram, the output
   abbrev sx : Val
   sx = sliceVal (x .ptr) (length (x .now))
 
+  abbrev sy : Val
+  sy = sliceVal (y .ptr) (length (y .now))
+
   abbrev sz : Val
-  sz = sliceVal (b′, o′) (length ys)
+  sz = sliceVal (z .ptr) (length (z .now))
 
   abbrev Arg : Type 0
-  Arg = RefT Record × (RefT (List ℕ) × (RefT (List ℕ) × Unit {0}))
+  Arg = RefT Record × (RefT (List ℕ) × (RefT (List ℕ) × (RefT (List ℕ) × Unit {0})))
 
   abbrev a : Arg
-  a = (record { ptr = (b, o); name = γ; now = h }, (x, (z, tt)))
+  a = (record { ptr = (b, o); name = γ; now = h }, (x, (y, (z, tt))))
 
-  abbrev vals : List Val × (List Val × (List Val × Unit {0}))
-  vals = (vptr b o ∷ [], (sx ∷ [], (sz ∷ [], tt)))
+  abbrev vals : List Val × (List Val × (List Val × (List Val × Unit {0})))
+  vals = (vptr b o ∷ [], (sx ∷ [], (sy ∷ [], (sz ∷ [], tt))))
 
   abbrev Post : Val → SProp 𝓤
-  Post = walkOf 𝓤 H A f.ended stayed (f.clauses 𝓤 H A at-mem run) .post (((κ, (κ₁, (κ₂, tt))), (q, (q₁, (q₂, tt))), tt, a, vals), tt)
+  Post = walkOf 𝓤 H A f.ended stayed (f.clauses 𝓤 H A at-mem run) .post (((κ, (κ₁, (κ₂, (κ₃, tt)))), (q, (q₁, (q₂, (q₃, tt)))), tt, a, vals), tt)
 
   -- what `take` is passed: the record, and the slices at their own lifetimes, shares and names
   abbrev to : Take 𝓤 H A at-mem run .Ghost
-  to = (((κ₁, (κ₂, tt)), (q₁, (q₂, tt)), tt, (h, (x, (z, tt))), (R′.lowered h ∷ [], (sx ∷ [], (sz ∷ [], tt)))), tt)
+  to = (((κ₁, (κ₂, (κ₃, tt))), (q₁, (q₂, (q₃, tt))), tt, (h, (x, (y, (z, tt)))), (R′.lowered h ∷ [], (sx ∷ [], (sy ∷ [], (sz ∷ [], tt))))), tt)
 
-  abbrev OwnX : Fml
-  OwnX = ShrSlice (named 1) κ₁ u8 .own x (sx ∷ [])
+  abbrev Tokens : Item 𝓤
+  Tokens = ‵ (flft κ₁ q₁) ⊛ ‵ (flft κ₂ q₂) ⊛ ‵ (flft κ₃ q₃) ⊛ ‵ ftrue
+
+  abbrev OwnY : Fml
+  OwnY = ShrSlice (named 2) κ₂ u8 .own y (sy ∷ [])
 
   abbrev Rest : Fml
-  Rest = owns (ShrSlice (named 1) κ₁ u8 ∷ MutSlice (named 2) κ₂ u8 ∷ []) (x, (z, tt)) (sx ∷ [], (sz ∷ [], tt))
+  Rest = owns (MutSlice (named 1) κ₁ u8 ∷ ShrSlice (named 2) κ₂ u8 ∷ MutSlice (named 3) κ₃ u8 ∷ []) (x, (y, (z, tt))) (sx ∷ [], (sy ∷ [], (sz ∷ [], tt)))
 
-  asked : ent 𝓤 (⋆ 𝓤 H A ((‵ (flft κ₁ q₁) ⊛ ‵ (flft κ₂ q₂) ⊛ ‵ ftrue) ∷ ‵ (owns (R.the-row ∷ ShrSlice (named 0) κ₁ u8 ∷ MutSlice (named 1) κ₂ u8 ∷ []) (h, (x, (z, tt))) (R′.lowered h ∷ [], (sx ∷ [], (sz ∷ [], tt)))) ∷ [])) (Take 𝓤 H A at-mem run .pre to)
-  asked = qed W ((‵ (flft κ₁ q₁) ⊛ ‵ (flft κ₂ q₂) ⊛ ‵ ftrue) ∷ ‵ (owns (R.the-row ∷ ShrSlice (named 0) κ₁ u8 ∷ MutSlice (named 1) κ₂ u8 ∷ []) (h, (x, (z, tt))) (R′.lowered h ∷ [], (sx ∷ [], (sz ∷ [], tt)))) ∷ []) ∵ join ! $ frame ! $ done !
+  abbrev Passed : Fml
+  Passed = owns (R.the-row ∷ MutSlice (named 0) κ₁ u8 ∷ ShrSlice (named 1) κ₂ u8 ∷ MutSlice (named 2) κ₃ u8 ∷ []) (h, (x, (y, (z, tt)))) (R′.lowered h ∷ [], (sx ∷ [], (sy ∷ [], (sz ∷ [], tt))))
+
+  asked : ent 𝓤 (⋆ 𝓤 H A (Tokens ∷ ‵ Passed ∷ [])) (Take 𝓤 H A at-mem run .pre to)
+  asked = qed W (Tokens ∷ ‵ Passed ∷ []) ∵ join ! $ frame ! $ done !
 
   -- the datagram's slice is Copy: `take` gets one copy, and one is kept for the exit
-  goes : ent 𝓤 (⋆ 𝓤 H A ((‵ (flft κ₁ q₁) ⊛ ‵ (flft κ₂ q₂) ⊛ ‵ ftrue) ∷ ‵ (R.the-row .own h (R′.lowered h ∷ [])) ∷ ‵ Rest ∷ [])) (sep 𝓤 (Take 𝓤 H A at-mem run .pre to) (sem 𝓤 H A OwnX))
-  goes = qed W ((‵ (flft κ₁ q₁) ⊛ ‵ (flft κ₂ q₂) ⊛ ‵ ftrue) ∷ ‵ (R.the-row .own h (R′.lowered h ∷ [])) ∷ ‵ Rest ∷ []) ∵
-      move ! (2 ∷ []) $ fsplit ! $ use1 W (‵ OwnX ⊛ ‵ OwnX) (shr-slice-copy 𝓤 H A W (named 1) κ₁ u8 .twice x (sx ∷ [])) $ split ! $
-      move ! (0 ∷ 2 ∷ []) $ fjoin ! $ move ! (3 ∷ 0 ∷ []) $ fjoin ! $ move ! (2 ∷ 0 ∷ []) $ use2 W (raw (Take 𝓤 H A at-mem run .pre to)) asked $ frame ! $ done !
+  goes : ent 𝓤 (⋆ 𝓤 H A (Tokens ∷ ‵ (R.the-row .own h (R′.lowered h ∷ [])) ∷ ‵ Rest ∷ [])) (sep 𝓤 (Take 𝓤 H A at-mem run .pre to) (sem 𝓤 H A OwnY))
+  goes = qed W (Tokens ∷ ‵ (R.the-row .own h (R′.lowered h ∷ [])) ∷ ‵ Rest ∷ []) ∵
+      move ! (2 ∷ []) $ fsplit ! $ move ! (1 ∷ []) $ fsplit ! $ use1 W (‵ OwnY ⊛ ‵ OwnY) (shr-slice-copy 𝓤 H A W (named 2) κ₂ u8 .twice y (sy ∷ [])) $ split ! $
+      move ! (0 ∷ 2 ∷ []) $ fjoin ! $ move ! (2 ∷ 0 ∷ []) $ fjoin ! $ move ! (3 ∷ 0 ∷ []) $ fjoin ! $ move ! (2 ∷ 0 ∷ []) $ use2 W (raw (Take 𝓤 H A at-mem run .pre to)) asked $ frame ! $ done !
 
-  -- the verdict, and what `take` ensures of its answer and of the output
+  -- the verdict, and what `take` ensures of its answer, of the area and of the output
   abbrev verdict : Verdict Taking
-  verdict = taking h (x .now) (length ys)
+  verdict = taking h (x .now) (y .now) (length (z .now))
 
-  abbrev Said : Taken → List ℕ → Type 0
-  Said r zs = Answered verdict ys r zs
+  abbrev Said : Taken → List ℕ → List ℕ → Type 0
+  Said r xs zs = Answered verdict (x .now) (z .now) r xs zs
 
-  met : (r : Taken) (zs : List ℕ) (d : Record) → Said r zs → d ≡ kept h r → TakenLent verdict h ys r zs d
-  met r zs d e k = record { answered = e; stored = k ∙ ap (kept h) (e .answer) ∙ kept-so h verdict }
+  abbrev Met : Taken → List ℕ → List ℕ → Record → Type 0
+  Met r xs zs d = TakenLent verdict h (x .now) (z .now) r xs zs d
 
-  exits : (r : Taken) (d : Record) (zs : List ℕ) → TakenLent verdict h ys r zs d → length zs ≡ length ys → Is T.the-row r (T′.lowered r ∷ [])
-      → ent 𝓤 (⋆ 𝓤 H A (‵ (fobs γ (R.the-row .coded .code d)) ∷ ‵ (fbor κ (Body (mem R.the-row) b o γ)) ∷ ‵ (flft κ q) ∷ (‵ (flft κ₁ q₁) ⊛ ‵ (flft κ₂ q₂) ⊛ ‵ ftrue) ∷ ‵ (finally u8 γ′ zs) ∷ ‵ OwnX ∷ [])) (Post (T′.lowered r))
-  exits r d zs e l is =
-      qed W (‵ (fobs γ (R.the-row .coded .code d)) ∷ ‵ (fbor κ (Body (mem R.the-row) b o γ)) ∷ ‵ (flft κ q) ∷ (‵ (flft κ₁ q₁) ⊛ ‵ (flft κ₂ q₂) ⊛ ‵ ftrue) ∷ ‵ (finally u8 γ′ zs) ∷ ‵ OwnX ∷ []) ∵
-      suffices ! _ (ends-at 𝓤 H A f.ended stayed (f.clauses 𝓤 H A at-mem run) W (((κ, (κ₁, (κ₂, tt))), (q, (q₁, (q₂, tt))), tt, a, vals), tt) (T′.lowered r) r (d, (tt, (zs, tt))) (tt, (tt, (l, tt)))) $ says ! e $
+  met : (r : Taken) (xs zs : List ℕ) (d : Record) → Said r xs zs → d ≡ kept h r → Met r xs zs d
+  met r xs zs d e k = record { answered = e; stored = k ∙ ap (kept h) (e .answer) ∙ kept-so h verdict }
+
+  exits : (r : Taken) (d : Record) (xs zs : List ℕ) → Met r xs zs d → length xs ≡ length (x .now) → length zs ≡ length (z .now) → Is T.the-row r (T′.lowered r ∷ [])
+      → ent 𝓤 (⋆ 𝓤 H A (‵ (fobs γ (R.the-row .coded .code d)) ∷ ‵ (fbor κ (Body (mem R.the-row) b o γ)) ∷ ‵ (flft κ q) ∷ Tokens ∷ ‵ (finally u8 (z .name) zs) ∷ ‵ (finally u8 (x .name) xs) ∷ ‵ OwnY ∷ [])) (Post (T′.lowered r))
+  exits r d xs zs e lx lz is =
+      qed W (‵ (fobs γ (R.the-row .coded .code d)) ∷ ‵ (fbor κ (Body (mem R.the-row) b o γ)) ∷ ‵ (flft κ q) ∷ Tokens ∷ ‵ (finally u8 (z .name) zs) ∷ ‵ (finally u8 (x .name) xs) ∷ ‵ OwnY ∷ []) ∵
+      suffices ! _ (ends-at 𝓤 H A f.ended stayed (f.clauses 𝓤 H A at-mem run) W (((κ, (κ₁, (κ₂, (κ₃, tt)))), (q, (q₁, (q₂, (q₃, tt)))), tt, a, vals), tt) (T′.lowered r) r (d, (xs, (tt, (zs, tt)))) (tt, (lx, (tt, (lz, tt))))) $ says ! e $
       move ! (2 ∷ 3 ∷ []) $ join ! $ frame ! $ feqI ! (List Val) (vptr b o ∷ []) (vptr b o ∷ []) refl $ fjoin3 ! $
-      nothing ! $ move ! (2 ∷ 0 ∷ []) $ fjoin ! $ move ! (2 ∷ 0 ∷ []) $ fjoin ! $ move ! (1 ∷ 0 ∷ []) $ fjoin ! $ frame ! $
+      nothing ! $ move ! (2 ∷ 0 ∷ []) $ fjoin ! $ move ! (3 ∷ 0 ∷ []) $ fjoin ! $ move ! (2 ∷ 0 ∷ []) $ fjoin ! $ move ! (1 ∷ 0 ∷ []) $ fjoin ! $ frame ! $
       owned ! T.the-row (Is T.the-row) (EL.makes T.the-type T′.the-plain 𝓤 H A) r _ is $ done !
 
   module _ (C : Calls 𝓤 H) (Λ : Loops 𝓤 H) (fm : FmC 𝓤 H (W .laws) C) (known : Triple 𝓤 (C #take) (Take 𝓤 H A at-mem run)) where
-    walk : Room u8 (length (x .now)) → Room u8 (length ys) → ent 𝓤 (onEntry 𝓤 H A f.signature (κ, (κ₁, (κ₂, tt))) (q, (q₁, (q₂, tt))) a vals) (WpFn 𝓤 H C Λ code.function (vptr b o ∷ sx ∷ sz ∷ []) Post)
-    walk room-x room =
-        qed W ((‵ (flft κ q) ⊛ ‵ (flft κ₁ q₁) ⊛ ‵ (flft κ₂ q₂) ⊛ ‵ ftrue) ∷ ‵ (owns (MutRef (named 0) κ R.the-row ∷ ShrSlice (named 1) κ₁ u8 ∷ MutSlice (named 2) κ₂ u8 ∷ []) a vals) ∷ []) ∵ enter ! C Λ code.function (vptr b o ∷ sx ∷ sz ∷ []) _ $
-        alloc1 ! (λ l₀. alloc1 ! (λ l₁. alloc1 ! (λ l₂. alloc1 ! (λ l₃. alloc1 ! (λ l₄. alloc1 ! (λ l₅. alloc1 ! (λ l₆. alloc1 ! (λ l₇. alloc1 ! (λ l₈. alloc0 ! $ params1 ! $
-        pass1 ! (init ! 14 refl (tt, tt)) $ pass1 ! (init ! 12 refl (tt, (tt, (record { fits = room-x .0 }, tt)))) $ pass1 ! (init ! 10 refl (tt, (tt, (record { fits = room .0 }, tt)))) $ pass0 ! $
-        -- [_8; …; _7; …; _6; …; _5; …; _4; …; _3; …; _2; …; _1; …; room for _0; …; the tokens; what the parameters own]: the record's borrow is opened
-        move ! (19 ∷ []) $ fsplit ! $ fsplit3 ! $ drop ! $ move ! (21 ∷ []) $ split ! $ move ! (2 ∷ 3 ∷ 0 ∷ []) $
+    walk : Room u8 (length (x .now)) → Room u8 (length (y .now)) → Room u8 (length (z .now)) → ent 𝓤 (onEntry 𝓤 H A f.signature (κ, (κ₁, (κ₂, (κ₃, tt)))) (q, (q₁, (q₂, (q₃, tt)))) a vals) (WpFn 𝓤 H C Λ code.function (vptr b o ∷ sx ∷ sy ∷ sz ∷ []) Post)
+    walk room-x room-y room-z =
+        qed W ((‵ (flft κ q) ⊛ Tokens) ∷ ‵ (owns (MutRef (named 0) κ R.the-row ∷ MutSlice (named 1) κ₁ u8 ∷ ShrSlice (named 2) κ₂ u8 ∷ MutSlice (named 3) κ₃ u8 ∷ []) a vals) ∷ []) ∵ enter ! C Λ code.function (vptr b o ∷ sx ∷ sy ∷ sz ∷ []) _ $
+        alloc1 ! (λ l₀. alloc1 ! (λ l₁. alloc1 ! (λ l₂. alloc1 ! (λ l₃. alloc1 ! (λ l₄. alloc1 ! (λ l₅. alloc1 ! (λ l₆. alloc1 ! (λ l₇. alloc1 ! (λ l₈. alloc1 ! (λ l₉. alloc1 ! (λ l₁₀. alloc1 ! (λ l₁₁. alloc0 ! $ params1 ! $
+        pass1 ! (init ! 20 refl (tt, tt)) $ pass1 ! (init ! 18 refl (tt, (tt, (record { fits = room-x .0 }, tt)))) $ pass1 ! (init ! 16 refl (tt, (tt, (record { fits = room-y .0 }, tt)))) $ pass1 ! (init ! 14 refl (tt, (tt, (record { fits = room-z .0 }, tt)))) $ pass0 ! $
+        -- [_11; …; _10; …; _9; …; _8; …; _7; …; _6; …; _5; …; _4; …; _3; …; _2; …; _1; …; room for _0; …; the tokens; what the parameters own]: the record's borrow is opened
+        move ! (25 ∷ []) $ fsplit ! $ fsplit3 ! $ drop ! $ move ! (27 ∷ []) $ split ! $ move ! (2 ∷ 3 ∷ 0 ∷ []) $
         opened ! tt h b o (λ was.
-        -- [what the record owns; its cell; the open borrow; obs; auth; the slices' tokens; what the slices own; _8; …; _7; …; _6; …; _5; …; _4; …; _3; …; _2; …; _1; …; room for _0; …]
-        assigns ! (of-opd ! (load ! (from ! (hop ! (look ! 21 refl) (stop !))) (look-raw ! 1 refl))) (from ! (stop !)) (init ! 15 refl (typed-so 𝓤 H A W h was .0)) $
-        assigns ! (addr ! (from ! (fld ! refl (hop ! (look-in ! 17 (sub ! 0 refl (whole !))) (stop !))))) (from ! (stop !)) (init ! 9 refl (tt, tt)) $
-        assigns ! (agg ! (and-then ! (load ! (from ! (stop !)) (look ! 9 refl)) (and-then ! (load ! (from ! (fld ! refl (stop !))) (look-in ! 17 (sub ! 1 refl (whole !)))) (no-more !)))) (from ! (stop !)) (init ! 7 refl (tt, (tt, (record { fits = room .0 }, tt)))) $
+        -- [what the record owns; its cell; the open borrow; obs; auth; the slices' tokens; what the slices own; _11; …; _10; …; _9; …; _8; …; _7; …; _6; …; _5; …; _4; …; _3; …; _2; …; _1; …; room for _0; …]
+        assigns ! (of-opd ! (load ! (from ! (hop ! (look ! 27 refl) (stop !))) (look-raw ! 1 refl))) (from ! (stop !)) (init ! 19 refl (typed-so 𝓤 H A W h was .0)) $
+        assigns ! (addr ! (from ! (fld ! refl (hop ! (look-in ! 25 (sub ! 0 refl (whole !))) (stop !))))) (from ! (stop !)) (init ! 13 refl (tt, tt)) $
+        assigns ! (agg ! (and-then ! (load ! (from ! (stop !)) (look ! 13 refl)) (and-then ! (load ! (from ! (fld ! refl (stop !))) (look-in ! 25 (sub ! 1 refl (whole !)))) (no-more !)))) (from ! (stop !)) (init ! 11 refl (tt, (tt, (record { fits = room-x .0 }, tt)))) $
+        assigns ! (addr ! (from ! (fld ! refl (hop ! (look-in ! 21 (sub ! 0 refl (whole !))) (stop !))))) (from ! (stop !)) (init ! 9 refl (tt, tt)) $
+        assigns ! (agg ! (and-then ! (load ! (from ! (stop !)) (look ! 9 refl)) (and-then ! (load ! (from ! (fld ! refl (stop !))) (look-in ! 21 (sub ! 1 refl (whole !)))) (no-more !)))) (from ! (stop !)) (init ! 7 refl (tt, (tt, (record { fits = room-z .0 }, tt)))) $
         -- the call
-        move ! (5 ∷ 0 ∷ 6 ∷ []) $ use3 W (raw (Take 𝓤 H A at-mem run .pre to) ⊛ ‵ OwnX) goes $ split ! $
-        calls-at ! fm (Take 𝓤 H A at-mem run) known to (and-then ! (load ! (from ! (stop !)) (look ! 14 refl)) (and-then ! (load ! (from ! (stop !)) (look ! 18 refl)) (and-then ! (load ! (from ! (stop !)) (look ! 6 refl)) (no-more !)))) (λ w.
-        use1 W (later (some (λ (r : Taken). ((‵ (flft κ₁ q₁) ⊛ ‵ (flft κ₂ q₂) ⊛ ‵ ftrue) ⊛ ‵ (T.the-row .own r (w ∷ []))) ⊛ raw (ensured 𝓤 H A take.ended (take.clauses 𝓤 H A at-mem run) (κ₁, (κ₂, tt)) (h, (x, (z, tt))) tt r)))) (id⊢ 𝓤 _) $ await ! tt $ pick ! (λ r.
-        split ! $ move ! (1 ∷ []) $ use1 W (some (λ (zs : Unit {0} × (Unit {0} × (List ℕ × Unit {0}))). ‵ (lasts take.ended (κ₁, (κ₂, tt)) (h, (x, (z, tt))) zs) ⊛ raw (fact 𝓤 (Said r (zs .1 .1 .0))))) (id⊢ 𝓤 _) $ pick ! (λ zs.
-        split ! $ move ! (1 ∷ []) $ heard ! (Said r (zs .1 .1 .0)) (λ e. fsplit ! $ drop ! $ fsplit ! $ drop ! $ fsplit ! $ fsplit ! $ move ! (1 ∷ []) $ feqL ! (λ l.
-        -- [what says the last list; …; the tokens and the answer; what the datagram owns; the cell; the open borrow; obs; auth; _8; …]
-        move ! (2 ∷ []) $ split ! $ move ! (1 ∷ []) $ peeks ! T.the-row (Is T.the-row) (shows 𝓤 H A T.the-row) r (w ∷ []) (λ is.
-        land ! (from ! (stop !)) (init ! 15 refl (EL.lawful T.the-type T′.the-laws 𝓤 H A W tt .typed r _ is .0)) $ rewrite ! 15 (λ (u : Val). ‵ (fat fullShare T′.mir l₅ 0 u)) (ap only (T′.lowers .val-is r (w ∷ []) is) ∙ tagged r) refl $
-        -- [what the answer owns; the tokens; the last list; …; what the datagram owns; the cell; the open borrow; obs; auth; _8; …; _7; …; room for _6; …; _5; …; _4; …; _3; …; _2; …; _1; …; room for _0; …]
-        within ! (λ on. by-variants ! 15 (whole !) (load ! (from ! (vrt ! refl (fld ! refl (stop !)))) (look-tag ! 15 (whole !))) tt (
+        move ! (5 ∷ 0 ∷ 6 ∷ []) $ use3 W (raw (Take 𝓤 H A at-mem run .pre to) ⊛ ‵ OwnY) goes $ split ! $
+        calls-at ! fm (Take 𝓤 H A at-mem run) known to (and-then ! (load ! (from ! (stop !)) (look ! 18 refl)) (and-then ! (load ! (from ! (stop !)) (look ! 10 refl)) (and-then ! (load ! (from ! (stop !)) (look ! 22 refl)) (and-then ! (load ! (from ! (stop !)) (look ! 6 refl)) (no-more !))))) (λ w.
+        use1 W (later (some (λ (r : Taken). (Tokens ⊛ ‵ (T.the-row .own r (w ∷ []))) ⊛ raw (ensured 𝓤 H A take.ended (take.clauses 𝓤 H A at-mem run) (κ₁, (κ₂, (κ₃, tt))) (h, (x, (y, (z, tt)))) tt r)))) (id⊢ 𝓤 _) $ await ! tt $ pick ! (λ r.
+        split ! $ move ! (1 ∷ []) $ use1 W (some (λ (ws : Unit {0} × (List ℕ × (Unit {0} × (List ℕ × Unit {0})))). ‵ (lasts take.ended (κ₁, (κ₂, (κ₃, tt))) (h, (x, (y, (z, tt)))) ws) ⊛ raw (fact 𝓤 (Said r (ws .1 .0) (ws .1 .1 .1 .0))))) (id⊢ 𝓤 _) $ pick ! (λ ws.
+        split ! $ move ! (1 ∷ []) $ heard ! (Said r (ws .1 .0) (ws .1 .1 .1 .0)) (λ e. fsplit ! $ drop ! $ fsplit ! $ fsplit ! $ move ! (1 ∷ []) $ feqL ! (λ lx. move ! (1 ∷ []) $ fsplit ! $ drop ! $ fsplit ! $ fsplit ! $ move ! (1 ∷ []) $ feqL ! (λ lz.
+        -- [what says the output's last list; …; what says the area's; the tokens and the answer; what the datagram owns; the cell; the open borrow; obs; auth; _11; …]
+        move ! (3 ∷ []) $ split ! $ move ! (1 ∷ []) $ peeks ! T.the-row (Is T.the-row) (shows 𝓤 H A T.the-row) r (w ∷ []) (λ is.
+        land ! (from ! (stop !)) (init ! 20 refl (EL.lawful T.the-type T′.the-laws 𝓤 H A W tt .typed r _ is .0)) $ rewrite ! 20 (λ (u : Val). ‵ (fat fullShare T′.mir l₆ 0 u)) (ap only (T′.lowers .val-is r (w ∷ []) is) ∙ tagged r) refl $
+        -- [what the answer owns; the tokens; the output's last list; …; the area's; what the datagram owns; the cell; the open borrow; obs; auth; _11; …; _10; …; _9; …; _8; …; room for _7; …; _6; …; _5; …; _4; …; _3; …; _2; …; _1; …; room for _0; …]
+        within ! (λ on. by-variants ! 20 (whole !) (load ! (from ! (vrt ! refl (fld ! refl (stop !)))) (look-tag ! 20 (whole !))) tt (
           -- taken: the record afterwards is stored
-          (λ one. rewrite ! 15 (λ (u : Val). ‵ (fat fullShare T′.mir l₅ 0 u)) (took-so h r one) refl $
-              assigns ! (of-opd ! (load ! (from ! (vrt ! refl (fld ! refl (stop !)))) (look-in ! 15 (in-variant ! 1 2 refl refl (whole !))))) (from ! (stop !)) (init ! 13 refl (typed-so 𝓤 H A W (kept h r) (after-is h r w is one) .0)) $
-              assigns-last ! (of-opd ! (load ! (from ! (stop !)) (look ! 13 refl))) (from ! (hop ! (look ! 23 refl) (stop !))) (store-raw ! 5 refl (typed-so 𝓤 H A W (kept h r) (after-is h r w is one) .0)) $
-              on _ $ rewrite ! 15 (λ (u : Val). ‵ (fat fullShare T′.mir l₅ 0 u)) (sym (tagged r ∙ took-so h r one)) refl $
-              assigns ! (of-opd ! (load ! (from ! (stop !)) (look ! 15 refl))) (from ! (stop !)) (init ! 25 refl (EL.lawful T.the-type T′.the-laws 𝓤 H A W tt .typed r _ (answer-is r w is) .0)) $
-              drop ! $ move ! (4 ∷ 5 ∷ 6 ∷ 7 ∷ []) $ closed ! tt (kept h r) (after-is h r w is one) b o $
-              -- [obs; the borrow; its token; the slices' tokens; the last list; …; what the datagram owns; _8; …]
-              returns ! (look ! 23 refl) $ leaves ! 7 (held _ ∷ held _ ∷ held _ ∷ held _ ∷ held _ ∷ held _ ∷ held _ ∷ held _ ∷ held _ ∷ []) refl $
-              keep ! (0 ∷ 1 ∷ 2 ∷ 3 ∷ 4 ∷ 6 ∷ []) $ by ! (exits r (kept h r) (zs .1 .1 .0) (met r (zs .1 .1 .0) (kept h r) e refl) l (answer-is r w is))),
+          (λ one. rewrite ! 20 (λ (u : Val). ‵ (fat fullShare T′.mir l₆ 0 u)) (took-so h r one) refl $
+              assigns ! (of-opd ! (load ! (from ! (vrt ! refl (fld ! refl (stop !)))) (look-in ! 20 (in-variant ! 1 2 refl refl (whole !))))) (from ! (stop !)) (init ! 18 refl (typed-so 𝓤 H A W (kept h r) (after-is h r w is one) .0)) $
+              assigns-last ! (of-opd ! (load ! (from ! (stop !)) (look ! 18 refl))) (from ! (hop ! (look ! 30 refl) (stop !))) (store-raw ! 6 refl (typed-so 𝓤 H A W (kept h r) (after-is h r w is one) .0)) $
+              on _ $ rewrite ! 20 (λ (u : Val). ‵ (fat fullShare T′.mir l₆ 0 u)) (sym (tagged r ∙ took-so h r one)) refl $
+              assigns ! (of-opd ! (load ! (from ! (stop !)) (look ! 20 refl))) (from ! (stop !)) (init ! 32 refl (EL.lawful T.the-type T′.the-laws 𝓤 H A W tt .typed r _ (answer-is r w is) .0)) $
+              drop ! $ move ! (5 ∷ 6 ∷ 7 ∷ 8 ∷ []) $ closed ! tt (kept h r) (after-is h r w is one) b o $
+              -- [obs; the borrow; its token; the slices' tokens; the output's last list; …; the area's; what the datagram owns; _11; …]
+              returns ! (look ! 30 refl) $ leaves ! 8 (held _ ∷ held _ ∷ held _ ∷ held _ ∷ held _ ∷ held _ ∷ held _ ∷ held _ ∷ held _ ∷ held _ ∷ held _ ∷ held _ ∷ []) refl $
+              keep ! (0 ∷ 1 ∷ 2 ∷ 3 ∷ 4 ∷ 6 ∷ 7 ∷ []) $ by ! (exits r (kept h r) (ws .1 .0) (ws .1 .1 .1 .0) (met r (ws .1 .0) (ws .1 .1 .1 .0) (kept h r) e refl) lx lz (answer-is r w is))),
           -- refused: the record is left as it lies
           (
-            (λ nought. skips ! $ on _ $ rewrite ! 15 (λ (u : Val). ‵ (fat fullShare T′.mir l₅ 0 u)) (sym (tagged r)) refl $
-                assigns ! (of-opd ! (load ! (from ! (stop !)) (look ! 15 refl))) (from ! (stop !)) (init ! 25 refl (EL.lawful T.the-type T′.the-laws 𝓤 H A W tt .typed r _ (answer-is r w is) .0)) $
-                drop ! $ move ! (4 ∷ 5 ∷ 6 ∷ 7 ∷ []) $ closed ! tt h was b o $
-                returns ! (look ! 23 refl) $ leaves ! 7 (held _ ∷ held _ ∷ held _ ∷ held _ ∷ held _ ∷ held _ ∷ bare ∷ held _ ∷ held _ ∷ []) refl $
-                keep ! (0 ∷ 1 ∷ 2 ∷ 3 ∷ 4 ∷ 6 ∷ []) $ by ! (exits r h (zs .1 .1 .0) (met r (zs .1 .1 .0) h e (refused-so h r nought)) l (answer-is r w is))),
+            (λ nought. skips ! $ on _ $ rewrite ! 20 (λ (u : Val). ‵ (fat fullShare T′.mir l₆ 0 u)) (sym (tagged r)) refl $
+                assigns ! (of-opd ! (load ! (from ! (stop !)) (look ! 20 refl))) (from ! (stop !)) (init ! 32 refl (EL.lawful T.the-type T′.the-laws 𝓤 H A W tt .typed r _ (answer-is r w is) .0)) $
+                drop ! $ move ! (5 ∷ 6 ∷ 7 ∷ 8 ∷ []) $ closed ! tt h was b o $
+                returns ! (look ! 30 refl) $ leaves ! 8 (held _ ∷ held _ ∷ held _ ∷ held _ ∷ held _ ∷ held _ ∷ held _ ∷ bare ∷ held _ ∷ held _ ∷ held _ ∷ held _ ∷ []) refl $
+                keep ! (0 ∷ 1 ∷ 2 ∷ 3 ∷ 4 ∷ 6 ∷ 7 ∷ []) $ by ! (exits r h (ws .1 .0) (ws .1 .1 .1 .0) (met r (ws .1 .0) (ws .1 .1 .1 .0) h e (refused-so h r nought)) lx lz (answer-is r w is))),
             tt,
           ),
-        ))))))))))))))))))
+        ))))))))))))))))))))))
 
 module _ {M : Type 1} (𝓤 : URA M) (H : Heap 𝓤) (A : Atoms 𝓤) (W : Given 𝓤 H A) (mem : Memory → SProp 𝓤) (run : Routine → Fun 𝓤) where
   walks : (C : Calls 𝓤 H) (Λ : Loops 𝓤 H) → FmC 𝓤 H (W .laws) C → Triple 𝓤 (C #take) (Take 𝓤 H A mem run) → Walks 𝓤 H A f.ended stayed (WpFn 𝓤 H C Λ code.function) (f.clauses 𝓤 H A mem run)
   walks C Λ fm known = walked 𝓤 H A f.ended stayed (f.clauses 𝓤 H A mem run) (WpFn 𝓤 H C Λ code.function)
-      (λ κs. (ptr-vals, (slice-vals, (slice-vals, tt)))) (λ κs. (mut-tells (named 0) (κs .0) R.the-row, (shr-slice-tells (named 1) (κs .1 .0) u8, (mut-slice-tells (named 2) (κs .1 .1 .0) u8, tt))))
-      (λ κs qs bounds a g are. via 𝓤 _ (fst∗ 𝓤 _ (emp 𝓤)) (walk 𝓤 H A W mem run (κs .0) (κs .1 .0) (κs .1 .1 .0) (qs .0) (qs .1 .0) (qs .1 .1 .0) (a .0 .ptr .0) (a .0 .ptr .1) (a .0 .name) (a .0 .now) (a .1 .0) (a .1 .1 .0 .ptr .0) (a .1 .1 .0 .ptr .1) (a .1 .1 .0 .name) (a .1 .1 .0 .now) C Λ fm known (are .1 .0 .0 .1) (are .1 .1 .0 .0 .1)))
+      (λ κs. (ptr-vals, (slice-vals, (slice-vals, (slice-vals, tt))))) (λ κs. (mut-tells (named 0) (κs .0) R.the-row, (mut-slice-tells (named 1) (κs .1 .0) u8, (shr-slice-tells (named 2) (κs .1 .1 .0) u8, (mut-slice-tells (named 3) (κs .1 .1 .1 .0) u8, tt)))))
+      (λ κs qs bounds a g are. via 𝓤 _ (fst∗ 𝓤 _ (emp 𝓤)) (walk 𝓤 H A W mem run (κs .0) (κs .1 .0) (κs .1 .1 .0) (κs .1 .1 .1 .0) (qs .0) (qs .1 .0) (qs .1 .1 .0) (qs .1 .1 .1 .0) (a .0 .ptr .0) (a .0 .ptr .1) (a .0 .name) (a .0 .now) (a .1 .0) (a .1 .1 .0) (a .1 .1 .1 .0) C Λ fm known (are .1 .0 .0 .1) (are .1 .1 .0 .0 .1) (are .1 .1 .1 .0 .0 .1)))
 
-  gone : AllGo 𝓤 H A W 3 (f.signature .params) (f.ended .kept) stayed
-  gone = (goes-ref 𝓤 H A W 3 0 tt (plain (λ _. R.the-row)), (goes-none-slice 𝓤 H A W 3 (1 ∷ []) tt (plain (λ _. u8)) yes, (goes-gave-slice 𝓤 H A W 3 2 tt (plain (λ _. u8)), tt)))
+  gone : AllGo 𝓤 H A W 4 (f.signature .params) (f.ended .kept) stayed
+  gone = (goes-ref 𝓤 H A W 4 0 tt (plain (λ _. R.the-row)), (goes-gave-slice 𝓤 H A W 4 1 tt (plain (λ _. u8)), (goes-none-slice 𝓤 H A W 4 (2 ∷ []) tt (plain (λ _. u8)) yes, (goes-gave-slice 𝓤 H A W 4 3 tt (plain (λ _. u8)), tt))))
 
 meets : {M : Type 1} (𝓤 : URA M) (H : Heap 𝓤) (A : Atoms 𝓤) → Given 𝓤 H A → (mem : Memory → SProp 𝓤) (run : Routine → Fun 𝓤) (𝓣 : Tables 𝓤 H) → Triple 𝓤 (𝓣 .C #take) (Take 𝓤 H A mem run)
     → Meets 𝓤 H A f.signature (WpFn 𝓤 H (𝓣 .C) (𝓣 .Λ) code.function) (f.spec 𝓤 H A mem run)

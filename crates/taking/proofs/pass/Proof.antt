@@ -1,6 +1,6 @@
-use borrow.Author.Needs.{needs}
 use Rattle.blocks.specs.Blocks.{frames}
 use Rattle.taking.specs.Steps.{passing}
+use borrow.Author.Needs.{needs}
 use Rattle.taking.proofs.pass.Statement.{statement}
 use Rattle.taking.proofs.pass.Tie as tie
 

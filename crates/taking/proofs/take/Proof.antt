@@ -1,30 +1,44 @@
 use mathlib.Core.Path.{_≡_, refl, sym, _∙_}
 use mathlib.Core.Bool.{true}
 use denote.Ref.{now}
-use borrow.Author.Needs.{needs}
 use Rattle.wire.specs.Fields.{Bytes}
 use Rattle.wire.proofs.Tests.{held, failed}
+use Rattle.held.specs.Hanging.{sound}
 use Rattle.record.specs.Record.{hangs}
 use Rattle.hearing.specs.Hearing.{news, end}
-use Rattle.taking.proofs.Answering.{answers-broken, answers-refusal, answers-none, fills-so, answers-messages}
 use Rattle.hearing.proofs.Hearing.{heard-so}
+use Rattle.taking.proofs.Answering.{answers-broken, answers-unwhole, both-hang, answers-refusal, answers-none, fills-so, answers-messages}
+use borrow.Author.Needs.{needs}
 use Rattle.taking.proofs.take.Statement.{statement}
 use Rattle.taking.proofs.take.Tie as tie
 
 -- once the datagram was heard
-hung : (c : tie.After-hear) → hangs (c .before .before .before .before .before .args .kept) ≡ true
-hung c = held (c .before .before .hangs-together .ensures) (c .before .if1 .left)
+hang : (c : tie.After-hear) → let a = c .before .before .before .before .before .before .before .before .before .before .before .args in (hangs (a .kept) ≡ true) × (sound (a .kept .held) (now (a .area)) ≡ true)
+hang c =
+    let a = c .before .before .before .before .before .before .before .before .before .before .before .args in
+    both-hang (a .kept) (now (a .area)) (now (a .datagram)) (now (a .out)) (held (c .before .before .before .before .before .before .before .is-well-kept .ensures) (c .before .before .before .before .before .before .if1 .left)) (held (c .before .before .is-whole .ensures) (c .before .if2 .left))
 
-bytes : (c : tie.After-hear) → Bytes (now (c .before .before .before .before .before .args .datagram))
-bytes c i = c .before .before .before .before .shared-slice-known .given i .fits
+bytes : (c : tie.After-hear) → Bytes (now (c .before .before .before .before .before .before .before .before .before .before .before .args .datagram))
+bytes c i = c .before .before .before .before .before .before .before .before .before .shared-slice-known .given i .fits
 
-hangs-together-requires : tie.Need-hangs-together-requires
-hangs-together-requires c κs = search needs
+is-well-kept-requires : tie.Need-is-well-kept-requires
+is-well-kept-requires c κs = search needs
 
 returns : tie.Need-returns
 returns c =
-    let a = c .before .before .before .before .args in
-    answers-broken (a .kept) (now (a .datagram)) (now (a .out)) (failed (c .before .hangs-together .ensures) (c .if1 .taken))
+    let a = c .before .before .before .before .before .args in
+    answers-broken (a .kept) (now (a .area)) (now (a .datagram)) (now (a .out)) (failed (c .before .is-well-kept .ensures) (c .if1 .taken))
+
+is-whole-requires : tie.Need-is-whole-requires
+is-whole-requires c κs = search needs
+
+same-length : tie.Need-same-length
+same-length c = search needs
+
+returns-2 : tie.Need-returns-2
+returns-2 c =
+    let a = c .before .before .before .before .before .before .before .before .before .before .args in
+    answers-unwhole (a .kept) (now (a .area)) (now (a .datagram)) (now (a .out)) (failed (c .before .is-whole .ensures) (c .if2 .taken))
 
 hear-requires : tie.Need-hear-requires
 hear-requires c κs = search needs
@@ -37,10 +51,10 @@ enum-known-heard-2 c = search needs
 
 take-messages-requires : tie.Need-take-messages-requires
 take-messages-requires c κs =
-    let h = c .before .before .before .before in
-    let a = h .before .before .before .before .before .args in
-    let m = heard-so _ _ _ (sym (c .before .before .heard2 .given .1) ∙ h .hear .ensures) in
-    fills-so (a .kept) (now (a .datagram)) (now (a .out)) (hung h) (bytes h) _ _ _ m
+    let h = c .before .before .before .before .before in
+    let a = h .before .before .before .before .before .before .before .before .before .before .before .args in
+    let m = heard-so _ _ _ (sym (c .before .before .before .heard2 .given .1) ∙ h .hear .ensures) in
+    (hang h .0, hang h .1, fills-so (a .kept) (now (a .area)) (now (a .datagram)) (now (a .out)) (hang h .0) (hang h .1) (bytes h) _ _ _ m)
 
 enum-known-heard-3 : tie.Need-enum-known-heard-3
 enum-known-heard-3 c = search needs
@@ -54,43 +68,57 @@ enum-known-heard-4 c = search needs
 pass-requires-2 : tie.Need-pass-requires-2
 pass-requires-2 c κs = search needs
 
-returns-2 : tie.Need-returns-2
-returns-2 c =
-    let h = c .before .before .before in
-    let a = h .before .before .before .before .before .args in
-    answers-refusal (a .kept) (now (a .datagram)) (now (a .out)) (hung h) _ (heard-so _ _ _ (sym (c .before .heard .given .1) ∙ h .hear .ensures))
-
-same-length : tie.Need-same-length
-same-length c = search needs
+same-length-2 : tie.Need-same-length-2
+same-length-2 c = search needs
 
 returns-3 : tie.Need-returns-3
 returns-3 c =
-    let t = c .before .before in
-    let h = t .before .before .before .before .before in
-    let a = h .before .before .before .before .before .args in
-    let m = heard-so _ _ _ (sym (t .before .before .before .heard2 .given .1) ∙ h .hear .ensures) in
-    answers-messages (a .kept) (now (a .datagram)) (now (a .out)) (hung h) (bytes h) _ _ _ m _ _ (t .take-messages .ensures)
+    let h = c .before .before .before in
+    let a = h .before .before .before .before .before .before .before .before .before .before .before .args in
+    answers-refusal (a .kept) (now (a .area)) (now (a .datagram)) (now (a .out)) (hang h .0) (hang h .1) _ (heard-so _ _ _ (sym (c .before .heard .given .1) ∙ h .hear .ensures))
+
+same-length-3 : tie.Need-same-length-3
+same-length-3 c = search needs
+
+same-length-4 : tie.Need-same-length-4
+same-length-4 c = search needs
 
 returns-4 : tie.Need-returns-4
 returns-4 c =
-    let h = c .before .before .before .before in
-    let a = h .before .before .before .before .before .args in
-    let m = heard-so _ _ _ (sym (c .before .before .heard3 .given .1) ∙ h .hear .ensures) in
-    answers-none (a .kept) (now (a .datagram)) (now (a .out)) (hung h) (news _) m refl _ (c .pass .ensures)
+    let h = c .before .before .before .before .before .before .before .before .before .before in
+    let a = h .before .before .before .before .before .before .before .before .before .before .before .args in
+    let m = heard-so _ _ _ (sym (c .before .before .before .before .before .before .before .before .heard2 .given .1) ∙ h .hear .ensures) in
+    answers-messages (a .kept) (now (a .area)) (now (a .datagram)) (now (a .out)) (hang h .0) (hang h .1) (bytes h) _ _ _ m _ _ _ (c .before .before .before .before .take-messages .ensures)
+
+same-length-5 : tie.Need-same-length-5
+same-length-5 c = search needs
 
 returns-5 : tie.Need-returns-5
 returns-5 c =
     let h = c .before .before .before .before in
-    let a = h .before .before .before .before .before .args in
+    let a = h .before .before .before .before .before .before .before .before .before .before .before .args in
+    let m = heard-so _ _ _ (sym (c .before .before .heard3 .given .1) ∙ h .hear .ensures) in
+    answers-none (a .kept) (now (a .area)) (now (a .datagram)) (now (a .out)) (hang h .0) (hang h .1) (news _) m refl (λ k. refl) _ (c .pass .ensures)
+
+same-length-6 : tie.Need-same-length-6
+same-length-6 c = search needs
+
+returns-6 : tie.Need-returns-6
+returns-6 c =
+    let h = c .before .before .before .before in
+    let a = h .before .before .before .before .before .before .before .before .before .before .before .args in
     let m = heard-so _ _ _ (sym (c .before .before .heard4 .given .1) ∙ h .hear .ensures) in
-    answers-none (a .kept) (now (a .datagram)) (now (a .out)) (hung h) (end _) m refl _ (c .pass2 .ensures)
+    answers-none (a .kept) (now (a .area)) (now (a .datagram)) (now (a .out)) (hang h .0) (hang h .1) (end _) m refl (λ k. refl) _ (c .pass2 .ensures)
 
 pub take-spec : {M : Type 1} → statement M
 take-spec =
     tie.close
     (tie.spec
-    hangs-together-requires
+    is-well-kept-requires
     returns
+    is-whole-requires
+    same-length
+    returns-2
     hear-requires
     enum-known-heard
     enum-known-heard-2
@@ -99,8 +127,12 @@ take-spec =
     pass-requires
     enum-known-heard-4
     pass-requires-2
-    returns-2
-    same-length
+    same-length-2
     returns-3
+    same-length-3
+    same-length-4
     returns-4
-    returns-5)
+    same-length-5
+    returns-5
+    same-length-6
+    returns-6)

@@ -1,48 +1,8 @@
-//! What the desk keeps: records, sheets, rules of patience and logs, mostly such as hang together.
+//! What else the desk keeps: sheets, rules of patience and logs, mostly such as hang together.
 
-use super::{blocks, flag, near, number, text};
+use super::{blocks, flag, near, number};
 use crate::dice::Dice;
-use hinurapay::flat::{hp_log, hp_patience, hp_record, hp_sheet};
-
-/// A session record: mostly one that hangs together.
-pub fn record(dice: &mut Dice) -> hp_record {
-    let style = if dice.one_in(16) {
-        dice.byte()
-    } else {
-        dice.pick(&[1, 2])
-    };
-    let name = if dice.one_in(8) {
-        text(false, dice)
-    } else {
-        *b"8841      "
-    };
-    let mut top = number(dice);
-    if style == 1 && !dice.one_in(8) {
-        top = top.min(0xffff_fffe);
-    }
-    let next = match dice.below(8) {
-        0 => near(top, dice),
-        1 => number(dice),
-        2 | 3 => top.wrapping_add(1),
-        _ => top.saturating_sub(dice.below(6) as u64).max(1),
-    };
-    let asked = match dice.below(8) {
-        0 => near(next, dice),
-        1 => number(dice),
-        2 | 3 => 0,
-        4 => 1,
-        _ => next,
-    };
-    hp_record {
-        style,
-        ended: flag(dice),
-        name,
-        session: number(dice),
-        next,
-        top,
-        asked,
-    }
-}
+use hinurapay::flat::{hp_log, hp_patience, hp_sheet};
 
 /// A time in milliseconds: mostly lawful, else edges, not-a-number and bits of any kind.
 pub fn time(longest: f64, dice: &mut Dice) -> f64 {

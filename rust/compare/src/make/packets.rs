@@ -1,6 +1,6 @@
 //! Packets, lawful and damaged, and what is to be written as one.
 
-use super::{block, blocks, damage, decimal, few, length, near, number, record, text};
+use super::{area, block, blocks, damage, decimal, few, length, near, number, sound_record, text};
 use crate::dice::Dice;
 use hinurapay::flat::{hp_packet, hp_record};
 use hinurapay::memx::MOST_EXTRA;
@@ -61,13 +61,16 @@ pub fn memx(session: u64, number: u64, dice: &mut Dice) -> Vec<u8> {
     packet
 }
 
-/// A record and a datagram for it: mostly of the record's style and session, and about its next
-/// number.
-pub fn to_take(limit: usize, dice: &mut Dice) -> (hp_record, Vec<u8>) {
-    let record = record(dice);
+/// A record, its area, and a datagram for it: mostly of the record's style and session, and about its
+/// next number or one that is held then.
+pub fn to_take(limit: usize, dice: &mut Dice) -> (hp_record, Vec<u8>, Vec<u8>) {
+    let record = sound_record(dice);
+    let area = area(record.held, dice);
     let first = match dice.below(8) {
         0 => number(dice),
         1 => near(record.top, dice),
+        2 | 3 => record.next.wrapping_add(1 + dice.below(36) as u64),
+        4 | 5 => record.next,
         _ => near(record.next, dice),
     };
     let mut datagram = if (record.style == 2) != dice.one_in(40) {
@@ -83,7 +86,7 @@ pub fn to_take(limit: usize, dice: &mut Dice) -> (hp_record, Vec<u8>) {
     if dice.one_in(2) {
         damage(&mut datagram, limit, dice);
     }
-    (record, datagram)
+    (record, area, datagram)
 }
 
 /// A UFO packet from the client, and where its blocks begin.

@@ -1,6 +1,6 @@
 //! The sending end of MEMX-UDP: messages in order, heartbeats and the shutdown, as packets that are written.
 
-use super::{agreed, written, Sender, DATAGRAM};
+use super::{agreed, laid, Sender, DATAGRAM};
 use crate::both::{blank, both};
 use crate::cases::memx_laid;
 use crate::dice::Dice;
@@ -48,9 +48,7 @@ impl<const EXTRA: usize> Memx<EXTRA> {
             session: SESSION,
             ..hp_packet::default()
         };
-        let laid = memx_laid(fields, &Self::HEADER, body, blank(DATAGRAM));
-        let (wrote, out) = agreed(laid);
-        written(out, wrote.bytes)
+        laid(memx_laid(fields, &Self::HEADER, body, blank(DATAGRAM)))
     }
 
     /// Messages from that number on: so many, or as many as were published, or as one datagram has.
@@ -76,13 +74,18 @@ impl<const EXTRA: usize> Sender for Memx<EXTRA> {
     }
 
     fn open() -> hp_record {
-        agreed(both!(hp_open_memx(SESSION))).0.record
+        agreed(both!(hp_open_memx(SESSION))).answer.record
     }
 
-    fn read(datagram: &[u8]) {
-        let (read, _) = agreed(both!(hp_memx_read(bytes); lent bytes = datagram));
-        assert_eq!(usize::from(read.packet.extra), EXTRA);
+    fn read(datagram: &[u8]) -> u64 {
+        let read = agreed(both!(hp_memx_read(bytes); lent bytes = datagram));
+        let packet = read.answer.packet;
+        assert_eq!(usize::from(packet.extra), EXTRA);
         assert_eq!(datagram[18..18 + EXTRA], Self::HEADER);
+        match packet.r#type {
+            2 => packet.number + u64::from(packet.count) - 1,
+            _ => packet.number,
+        }
     }
 
     fn send(&mut self, dice: &mut Dice) -> Vec<u8> {

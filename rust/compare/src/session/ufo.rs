@@ -1,6 +1,6 @@
 //! The sending end of UFO: a log, and the packets out of it.
 
-use super::{agreed, written, Sender, DATAGRAM};
+use super::{agreed, laid, Sender, DATAGRAM};
 use crate::both::{blank, both};
 use crate::dice::Dice;
 use hinurapay::flat::{hp_log, hp_packet, hp_record};
@@ -17,42 +17,40 @@ impl Ufo {
         let log = self.log;
         self.bytes.extend(blank(2 + message.len()));
         let before = self.bytes.clone();
-        let (logged, bytes) =
+        let added =
             agreed(both!(hp_log_add(log, tape, lent); lent lent = message; room tape = before));
-        let (used, after) = (log.used as usize, logged.log.used as usize);
+        let (bytes, logged) = (added.out, added.answer.log);
+        let (used, after) = (log.used as usize, logged.used as usize);
         assert_eq!(bytes[..used], self.bytes[..used]);
         assert_eq!(bytes[after..], self.bytes[after..]);
-        (self.log, self.bytes) = (logged.log, bytes);
+        (self.log, self.bytes) = (logged, bytes);
     }
 
     fn declare_end(&mut self) {
         let log = self.log;
         let ended = both!(hp_log_declare_end(log, tape); lent tape = &self.bytes);
-        self.log = agreed(ended).0.log;
+        self.log = agreed(ended).answer.log;
     }
 
     fn slip(&self, first: u32, count: u16) -> Vec<u8> {
         let log = self.log;
-        let (wrote, out) = agreed(both!(
+        laid(both!(
             hp_log_answer(log, tape, first, count, out); lent tape = &self.bytes; room out = blank(DATAGRAM)
-        ));
-        written(out, wrote.bytes)
+        ))
     }
 
     fn heartbeat(&self) -> Vec<u8> {
         let log = self.log;
-        let (wrote, out) = agreed(both!(
+        laid(both!(
             hp_log_heartbeat(log, tape, out); lent tape = &self.bytes; room out = blank(20)
-        ));
-        written(out, wrote.bytes)
+        ))
     }
 
     fn end(&self) -> Vec<u8> {
         let log = self.log;
-        let (wrote, out) = agreed(both!(
+        laid(both!(
             hp_log_end_packet(log, tape, out); lent tape = &self.bytes; room out = blank(20)
-        ));
-        written(out, wrote.bytes)
+        ))
     }
 }
 
@@ -66,11 +64,17 @@ impl Sender for Ufo {
     }
 
     fn open() -> hp_record {
-        agreed(both!(hp_open_ufo(b"8841      "))).0.record
+        agreed(both!(hp_open_ufo(b"8841      "))).answer.record
     }
 
-    fn read(datagram: &[u8]) {
-        agreed(both!(hp_ufo_read_down(bytes); lent bytes = datagram));
+    fn read(datagram: &[u8]) -> u64 {
+        let read = agreed(both!(hp_ufo_read_down(bytes); lent bytes = datagram));
+        let packet = read.answer.packet;
+        match packet.r#type {
+            b'E' => packet.number,
+            // of a heartbeat one less than the next
+            _ => packet.number + u64::from(packet.count) - 1,
+        }
     }
 
     fn send(&mut self, dice: &mut Dice) -> Vec<u8> {
@@ -97,18 +101,17 @@ impl Sender for Ufo {
             count: count as u16,
             ..hp_packet::default()
         };
-        let (wrote, out) = agreed(both!(
+        laid(both!(
             hp_ufo_write_message(fields, body, out); lent body = &[]; room out = blank(20)
-        ));
-        written(out, wrote.bytes)
+        ))
     }
 
     fn answer(&mut self, request: &[u8]) -> Vec<Vec<u8>> {
-        let (whole, _) = agreed(both!(hp_ufo_read_up(bytes); lent bytes = request));
+        let whole = agreed(both!(hp_ufo_read_up(bytes); lent bytes = request));
         let (mut place, mut answers) = (0, Vec::new());
-        for _ in 0..whole.packet.count {
+        for _ in 0..whole.answer.packet.count {
             let read = both!(hp_ufo_read_message(bytes, place); lent bytes = request);
-            let asked = agreed(read).0.packet;
+            let asked = agreed(read).answer.packet;
             assert_eq!(asked.r#type, b'T');
             answers.push(self.slip(asked.number as u32, asked.count));
             place = asked.next;

@@ -20,7 +20,14 @@ static const uint8_t HELLO[5] = {'h', 'e', 'l', 'l', 'o'};
 enum { ROOM = 1500, FRESH = 0x5a };
 static uint8_t out[ROOM];
 
-static void clear(void) { memset(out, FRESH, sizeof out); }
+/* the held area, which holds FRESH wherever nothing was held */
+enum { SLOT = 1472 };
+static uint8_t area[32 * SLOT];
+
+static void clear(void) {
+    memset(out, FRESH, sizeof out);
+    memset(area, FRESH, sizeof area);
+}
 
 /* exactly these bytes stand at the output's start, and nothing after them was touched */
 static int laid(const void *bytes, size_t length) {
@@ -48,7 +55,13 @@ static hp_packet of_type(uint8_t type) {
 
 static int same_record(hp_record one, hp_record other) {
     return one.style == other.style && one.ended == other.ended && memcmp(one.name, other.name, sizeof one.name) == 0
-        && one.session == other.session && one.next == other.next && one.top == other.top && one.asked == other.asked;
+        && one.session == other.session && one.next == other.next && one.top == other.top && one.asked == other.asked
+        && one.held == other.held;
+}
+
+/* takes a datagram with the area and the whole output */
+static hp_taken take(hp_record record, const uint8_t *datagram, size_t length) {
+    return hp_take(record, area, sizeof area, datagram, length, out, sizeof out);
 }
 
 static void soup(void) {
@@ -181,11 +194,11 @@ static void memx(void) {
     hp_opened opened = hp_open_memx(7);
     CHECK(opened.refusal == 0 && opened.record.style == 2 && opened.record.session == 7 && opened.record.next == 1);
     clear();
-    hp_taken taken = hp_take(opened.record, heartbeat, sizeof heartbeat, out, sizeof out);
+    hp_taken taken = take(opened.record, heartbeat, sizeof heartbeat);
     CHECK(taken.refusal == 0 && taken.bytes == 0 && taken.record.top == 0 && taken.record.ended == 0);
     CHECK(!hp_standing_of(taken.record).complete);
     heartbeat[9] = 8;
-    taken = hp_take(opened.record, heartbeat, sizeof heartbeat, out, sizeof out);
+    taken = take(opened.record, heartbeat, sizeof heartbeat);
     CHECK(taken.refusal == 11 && same_record(taken.record, opened.record) && laid("", 0));
 }
 
@@ -210,13 +223,13 @@ static void longer_header(void) {
     CHECK(wrote(hp_memx_write(fields, packet + 18, 2, packet + 22, 6, out, 28), packet, 28));
 
     clear();
-    hp_taken taken = hp_take(hp_open_memx(7).record, packet, 28, out, sizeof out);
+    hp_taken taken = take(hp_open_memx(7).record, packet, 28);
     CHECK(taken.refusal == 0 && taken.messages == 2 && taken.bytes == 6 && laid(packet + 22, 6));
     CHECK(taken.record.next == 3 && taken.record.top == 2 && taken.record.ended == 0);
     packet[1] = 17;
     CHECK(hp_memx_read(packet, 29).refusal == 5); /* before the byte that is left over */
     clear();
-    taken = hp_take(hp_open_memx(7).record, packet, 29, out, sizeof out);
+    taken = take(hp_open_memx(7).record, packet, 29);
     CHECK(taken.refusal == 5 && same_record(taken.record, hp_open_memx(7).record) && laid("", 0));
 }
 
@@ -296,11 +309,11 @@ static void delivery(void) {
     static const uint8_t packet[] = {'S', 0, 0, 0, 1, 0, 2, 0, 2, 'H', 'I', 0, 0};
     hp_record fresh = hp_open_ufo(&NAME).record;
     clear();
-    hp_taken taken = hp_take(fresh, packet, sizeof packet, out, 5);
+    hp_taken taken = hp_take(fresh, area, sizeof area, packet, sizeof packet, out, 5);
     CHECK(taken.refusal == 9 && taken.bytes == 0 && taken.messages == 0 && same_record(taken.record, fresh) && laid("", 0));
-    taken = hp_take(fresh, packet, sizeof packet - 1, out, sizeof out);
+    taken = take(fresh, packet, sizeof packet - 1);
     CHECK(taken.refusal == 4 && same_record(taken.record, fresh) && laid("", 0));
-    taken = hp_take(fresh, packet, sizeof packet, out, 6);
+    taken = hp_take(fresh, area, sizeof area, packet, sizeof packet, out, 6);
     CHECK(taken.refusal == 0 && taken.messages == 2 && taken.bytes == 6 && laid(packet + 7, 6));
     CHECK(taken.record.next == 3 && taken.record.top == 2 && taken.record.ended == 0 && taken.record.asked == 0);
 }
@@ -310,14 +323,14 @@ static hp_taken take_s(hp_record record, uint8_t number, uint8_t count) {
     uint8_t packet[7 + 2 * 8] = {0x53, 0, 0, 0, 0, 0, 0};
     packet[4] = number;
     packet[6] = count;
-    return hp_take(record, packet, 7 + 2 * (size_t)count, out, sizeof out);
+    return take(record, packet, 7 + 2 * (size_t)count);
 }
 
 /* takes `E` with this total */
 static hp_taken take_e(hp_record record, uint8_t total) {
     uint8_t packet[5] = {0x45, 0, 0, 0, 0};
     packet[4] = total;
-    return hp_take(record, packet, sizeof packet, out, sizeof out);
+    return take(record, packet, sizeof packet);
 }
 
 /* the specimen book's session, and what to ask in it */
@@ -328,32 +341,32 @@ static void record(void) {
     hp_opened opened = hp_open_ufo(&NAME);
     CHECK(opened.refusal == 0 && opened.record.style == 1 && memcmp(opened.record.name, NAME, sizeof NAME) == 0);
     CHECK(opened.record.next == 1 && opened.record.top == 0 && opened.record.asked == 0 && opened.record.ended == 0);
+    CHECK(opened.record.held == 0);
 
     hp_taken taken = take_s(opened.record, 1, 2);
     CHECK(taken.refusal == 0 && taken.messages == 2 && taken.bytes == 4);
     CHECK(taken.record.next == 3 && taken.record.top == 2);
     taken = take_s(taken.record, 5, 1);
-    CHECK(taken.refusal == 0 && taken.messages == 0 && taken.record.top == 5);
+    CHECK(taken.refusal == 0 && taken.messages == 0 && taken.record.top == 5 && taken.record.held == 1 << 5);
     hp_standing standing = hp_standing_of(taken.record);
-    CHECK(standing.refusal == 0 && !standing.complete && standing.missing && standing.first == 3 && standing.last == 5);
+    CHECK(standing.refusal == 0 && !standing.complete && standing.missing == 1 && standing.first == 3 && standing.last == 4);
 
     hp_sheet sheet = {0, 0, 0};
     hp_patience never = {0, 0, 0}, fixed = {1, 100, 0};
     hp_asked asked = hp_ask(taken.record, sheet, never, 0);
-    CHECK(asked.refusal == 0 && asked.what == 2 && asked.first == 3 && asked.count == 3 && asked.record.asked == 3);
+    CHECK(asked.refusal == 0 && asked.what == 2 && asked.first == 3 && asked.count == 2 && asked.record.asked == 3);
     CHECK(hp_ask(asked.record, sheet, never, 86400000).what == 1);
     CHECK(hp_ask(asked.record, sheet, fixed, 99).what == 1);
     CHECK(hp_ask(asked.record, sheet, fixed, 100).what == 2);
     asked = hp_ask(asked.record, sheet, fixed, -1);
     CHECK(asked.refusal == 15 && asked.what == 0 && asked.first == 0 && asked.record.asked == 3);
 
-    taken = take_s(taken.record, 2, 3);
-    CHECK(taken.refusal == 0 && taken.messages == 2 && taken.record.next == 5);
+    taken = take_s(taken.record, 2, 3); /* 3 and 4, and 5 that was held */
+    CHECK(taken.refusal == 0 && taken.messages == 3 && taken.record.next == 6 && taken.record.held == 0);
+    CHECK(hp_standing_of(taken.record).complete == 0);
     taken = take_e(taken.record, 5);
-    CHECK(taken.refusal == 0 && taken.record.ended == 1 && hp_standing_of(taken.record).first == 5);
-    taken = take_s(taken.record, 5, 1);
     standing = hp_standing_of(taken.record);
-    CHECK(taken.refusal == 0 && standing.complete == 1 && standing.missing == 0);
+    CHECK(taken.refusal == 0 && taken.record.ended == 1 && standing.complete == 1 && standing.missing == 0);
     CHECK(hp_ask(taken.record, sheet, never, 0).what == 0);
 
     CHECK(take_e(taken.record, 4).refusal == 12);
@@ -363,6 +376,73 @@ static void record(void) {
     hp_record broken = taken.record;
     broken.next = 0;
     CHECK(hp_standing_of(broken).refusal == 10);
+}
+
+static int range_is(hp_record record, uint64_t place, uint64_t first, uint64_t last) {
+    hp_range range = hp_missing_range(record, place);
+    return range.refusal == 0 && range.first == first && range.last == last;
+}
+
+/* these bytes stand at a slot's start, and the rest of the slot was not touched */
+static int slot_has(size_t slot, const void *bytes, size_t length) {
+    const uint8_t *at = area + slot * SLOT;
+    for (size_t place = length; place < SLOT; place++)
+        if (at[place] != FRESH) return 0;
+    return memcmp(at, bytes, length) == 0;
+}
+
+/* messages that come early, over the end of the slots: 30 is next, 31 and 33 are held, then 32 */
+static void early(void) {
+    static const uint8_t at_31[] = {'S', 0, 0, 0, 31, 0, 1, 0, 2, 'H', 'I'}, again[] = {'S', 0, 0, 0, 31, 0, 2, 0, 2, 'H', 'O', 0, 0};
+    static const uint8_t at_33[] = {'S', 0, 0, 0, 33, 0, 1, 0, 1, '!'}, at_30[] = {'S', 0, 0, 0, 30, 0, 1, 0, 0};
+    static const uint8_t too_early[] = {'S', 0, 0, 0, 62, 0, 1, 0, 1, '?'};
+    hp_record given = hp_open_ufo(&NAME).record;
+    given.next = 30;
+    given.top = 29;
+    clear();
+    hp_taken taken = take(given, at_31, sizeof at_31);
+    CHECK(taken.refusal == 0 && taken.bytes == 0 && taken.record.held == UINT32_C(1) << 31 && slot_has(31, at_31 + 7, 4));
+    taken = take(taken.record, at_33, sizeof at_33);
+    CHECK(taken.refusal == 0 && taken.record.held == (UINT32_C(1) << 31 | 2) && slot_has(1, at_33 + 7, 3));
+    CHECK(hp_standing_of(taken.record).missing == 2);
+    CHECK(range_is(taken.record, 0, 30, 30) && range_is(taken.record, 1, 32, 32) && range_is(taken.record, 2, 0, 0));
+    taken = take(taken.record, again, sizeof again); /* slot 31 keeps what it has, and slot 0 gets 32 */
+    CHECK(taken.refusal == 0 && slot_has(31, at_31 + 7, 4) && slot_has(0, "\0\0", 2));
+    taken = take(taken.record, too_early, sizeof too_early);
+    CHECK(taken.refusal == 0 && taken.record.top == 62 && taken.record.held == (UINT32_C(1) << 31 | 3));
+    CHECK(range_is(taken.record, 0, 30, 30) && range_is(taken.record, 1, 34, 62) && slot_has(30, "", 0) && laid("", 0));
+
+    given = taken.record;
+    static const uint8_t due[] = {0, 0, 0, 2, 'H', 'I', 0, 0, 0, 1, '!'}; /* 30 to 33 */
+    taken = hp_take(given, area, sizeof area, at_30, sizeof at_30, out, sizeof due - 1);
+    CHECK(taken.refusal == 9 && same_record(taken.record, given) && laid("", 0));
+    taken = hp_take(given, area, sizeof area, at_30, sizeof at_30, out, sizeof due);
+    CHECK(taken.refusal == 0 && taken.messages == 4 && taken.bytes == sizeof due && laid(due, sizeof due));
+    CHECK(taken.record.next == 34 && taken.record.held == 0);
+    CHECK(slot_has(31, at_31 + 7, 4) && slot_has(0, "\0\0", 2) && slot_has(1, at_33 + 7, 3)); /* freed slots keep their bytes */
+}
+
+/* full slots and areas that don't hang together are 10, before an empty datagram is 1 */
+static void not_held(void) {
+    hp_record given = hp_open_ufo(&NAME).record;
+    given.top = 4;
+    given.held = 1 << 3;
+    clear();
+    CHECK(take(given, NULL, 0).refusal == 10); /* what stands there is no length of a held message */
+    CHECK(hp_standing_of(given).refusal == 0 && hp_missing_range(given, 0).refusal == 0);
+    memcpy(area + 3 * SLOT, "\5\277", 2);
+    CHECK(take(given, NULL, 0).refusal == 10); /* 1,471 */
+    memcpy(area + 3 * SLOT, "\5\276", 2);
+    CHECK(take(given, NULL, 0).refusal == 1); /* 1,470 */
+    CHECK(hp_take(given, area, sizeof area - 1, NULL, 0, out, sizeof out).refusal == 10);
+    for (unsigned slot = 0; slot < 32; slot++) {
+        uint64_t refusal = slot >= 2 && slot <= 4 ? 0 : 10;
+        given.held = UINT32_C(1) << slot;
+        hp_range range = hp_missing_range(given, 0);
+        CHECK(range.refusal == refusal && range.first == (refusal ? 0 : 1) && hp_standing_of(given).refusal == refusal);
+        CHECK(hp_ask(given, (hp_sheet){0, 0, 0}, (hp_patience){0, 0, 0}, 0).refusal == refusal);
+        if (refusal) CHECK(take(given, NULL, 0).refusal == 10);
+    }
 }
 
 static void patience(void) {
@@ -458,6 +538,8 @@ int main(void) {
     tcp();
     delivery();
     record();
+    early();
+    not_held();
     patience();
     lending();
     return wrong;

@@ -1,6 +1,7 @@
 //! The flat face of the session record.
 
 use super::{flag, hp_patience, hp_sheet, number};
+use crate::held::Held;
 use crate::kinds::{Name, Sequence, SessionId};
 use crate::record::{Asked, Record, Session};
 use crate::refusal::Refusal;
@@ -23,6 +24,8 @@ pub struct hp_record {
     pub top: u64,
     /// The number last asked from, 0 if none.
     pub asked: u64,
+    /// Bit i is 1 where slot i of the held area is full.
+    pub held: u32,
 }
 
 impl hp_record {
@@ -39,6 +42,7 @@ impl hp_record {
             top: Sequence(self.top),
             ended: flag(self.ended)?,
             asked: Sequence(self.asked),
+            held: Held(self.held),
         })
     }
 
@@ -49,6 +53,7 @@ impl hp_record {
             next: after.next.0,
             top: after.top.0,
             asked: after.asked.0,
+            held: after.held.0,
             ..self
         }
     }
@@ -103,11 +108,23 @@ pub struct hp_standing {
     pub refusal: u64,
     /// 1 where the end was heard and every message was delivered.
     pub complete: u8,
-    /// 1 where `first` to `last` are missing, else 0 and both 0.
+    /// How many ranges are missing.
     pub missing: u8,
-    /// The first number missing.
+    /// The first number of the first of them, 0 where there is none.
     pub first: u64,
-    /// The last number missing.
+    /// Its last number, 0 where there is none.
+    pub last: u64,
+}
+
+/// A missing range.
+#[repr(C)]
+#[derive(Clone, Copy, Debug, Default, PartialEq, Eq)]
+pub struct hp_range {
+    /// 0 or why it was refused.
+    pub refusal: u64,
+    /// Its first number, 0 where there is no such range.
+    pub first: u64,
+    /// Its last number, 0 where there is no such range.
     pub last: u64,
 }
 
@@ -149,9 +166,10 @@ pub fn hp_open_memx(session: u64) -> hp_opened {
     }
 }
 
-/// Takes a datagram and delivers what is next.
-pub fn hp_take(record: hp_record, datagram: &[u8], out: &mut [u8]) -> hp_taken {
-    match record.record().and_then(|given| given.take(datagram, out)) {
+/// Takes a datagram, delivers what is next, and holds what is early in the area.
+pub fn hp_take(record: hp_record, area: &mut [u8], datagram: &[u8], out: &mut [u8]) -> hp_taken {
+    let given = record.record();
+    match given.and_then(|given| given.take(area, datagram, out)) {
         Ok(taken) => hp_taken {
             refusal: 0,
             bytes: taken.bytes as u64,
@@ -170,11 +188,11 @@ pub fn hp_take(record: hp_record, datagram: &[u8], out: &mut [u8]) -> hp_taken {
 pub fn hp_standing_of(record: hp_record) -> hp_standing {
     match record.record().and_then(|given| given.standing()) {
         Ok(standing) => {
-            let (first, last) = standing.missing.unwrap_or_default();
+            let (first, last) = standing.first.unwrap_or_default();
             hp_standing {
                 refusal: 0,
                 complete: u8::from(standing.complete),
-                missing: u8::from(standing.missing.is_some()),
+                missing: standing.missing as u8,
                 first: first.0,
                 last: last.0,
             }
@@ -182,6 +200,25 @@ pub fn hp_standing_of(record: hp_record) -> hp_standing {
         Err(refusal) => hp_standing {
             refusal: number(refusal),
             ..hp_standing::default()
+        },
+    }
+}
+
+/// The missing range at that place, counted from 0.
+pub fn hp_missing_range(record: hp_record, place: u64) -> hp_range {
+    match record.record().and_then(|given| given.missing()) {
+        Ok(mut ranges) => {
+            let place = usize::try_from(place).unwrap_or(usize::MAX);
+            let (first, last) = ranges.nth(place).unwrap_or_default();
+            hp_range {
+                refusal: 0,
+                first: first.0,
+                last: last.0,
+            }
+        }
+        Err(refusal) => hp_range {
+            refusal: number(refusal),
+            ..hp_range::default()
         },
     }
 }

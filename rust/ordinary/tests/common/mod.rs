@@ -2,6 +2,11 @@
 
 #![allow(dead_code)] // each test file uses its own part
 
+pub mod desk;
+pub mod had;
+
+use ordinary::held::{Held, AREA, SLOT};
+use ordinary::record::Record;
 use ordinary::refusal::Refusal;
 
 /// A small generator that gives the same numbers for the same seed.
@@ -174,4 +179,62 @@ pub fn written(write: impl Fn(&mut [u8]) -> Result<usize, Refusal>) -> Result<Ve
         Err(_) => assert_eq!(write_into(0, &write), whole, "9 comes last"),
     }
     whole
+}
+
+/// What stands in an area where nothing was laid: no length that a slot could have.
+pub const UNHELD: u8 = 0xdd;
+
+/// An area in which nothing is held.
+pub fn area() -> Vec<u8> {
+    in_pieces([&[UNHELD; SLOT][..]; 32])
+}
+
+/// Puts pieces together: an emulator takes five times as long for a long copy, or a long fill, in one.
+fn in_pieces<'a>(pieces: impl IntoIterator<Item = &'a [u8]>) -> Vec<u8> {
+    let mut whole = Vec::with_capacity(AREA);
+    for piece in pieces {
+        whole.extend_from_slice(piece);
+    }
+    whole
+}
+
+/// A copy of an area.
+pub fn copied(area: &[u8]) -> Vec<u8> {
+    in_pieces(area.chunks(SLOT))
+}
+
+/// The slots of messages with these numbers.
+pub fn held(numbers: &[u64]) -> Held {
+    Held(
+        numbers
+            .iter()
+            .fold(0, |bits, number| bits | 1 << (number % 32)),
+    )
+}
+
+/// Takes a datagram with room to spare: what was delivered and how many messages that is, or the
+/// refusal's number. Past what was delivered the tape must be as before, and so must everything be
+/// on a refusal.
+pub fn take_into(
+    record: &mut Record,
+    area: &mut [u8],
+    datagram: &[u8],
+) -> Result<(Vec<u8>, u64), u8> {
+    let (record_before, area_before) = (*record, copied(area));
+    let untouched = [UNTOUCHED; SLOT];
+    let mut tape = in_pieces([&untouched[..]; 32]);
+    let taken = record.take_in_place(area, datagram, &mut tape);
+    let bytes = taken.map_or(0, |taken| taken.bytes);
+    for rest in tape[bytes..].chunks(SLOT) {
+        assert_eq!(*rest, untouched[..rest.len()], "past what was delivered");
+    }
+    tape.truncate(bytes);
+    match taken {
+        Ok(taken) => Ok((tape, taken.messages)),
+        Err(refusal) => {
+            assert_eq!(*record, record_before);
+            assert!(area == area_before, "a refusal changed the area");
+            Err(refusal.number())
+        }
+    }
 }

@@ -1,21 +1,17 @@
-use borrow.Author.Needs.{needs}
 use Rattle.record.specs.Record.{hangs}
+use borrow.Author.Needs.{needs}
 use Rattle.record.proofs.hangs.hangs_together.Statement.{statement}
 use Rattle.record.proofs.hangs.hangs_together.Tie as tie
 
-highest-requires : tie.Need-highest-requires
-highest-requires c κs = search needs
+is-well-kept-requires : tie.Need-is-well-kept-requires
+is-well-kept-requires c κs = search needs
 
-in-order-requires : tie.Need-in-order-requires
-in-order-requires c κs = search needs
-
-is-lawful-requires : tie.Need-is-lawful-requires
-is-lawful-requires c κs = search needs
+is-in-place-requires : tie.Need-is-in-place-requires
+is-in-place-requires c κs = search needs
 
 returns : tie.Need-returns
 unfolding hangs
-returns c = rw (← c .before .before .highest .ensures, ← c .before .in-order .ensures, ← c .is-lawful .ensures)
+returns c = rw (← c .before .is-well-kept .ensures, ← c .is-in-place .ensures)
 
 pub hangs-together-spec : {M : Type 1} → statement M
-hangs-together-spec =
-    tie.close (tie.spec highest-requires in-order-requires is-lawful-requires returns)
+hangs-together-spec = tie.close (tie.spec is-well-kept-requires is-in-place-requires returns)

@@ -21,9 +21,16 @@ returns : tie.Need-returns
 unfolding standing
 returns c = rw (failed (c .before .hangs-together .ensures) (c .if1 .taken))
 
+at-requires : tie.Need-at-requires
+at-requires c κs = search needs
+
+count-requires : tie.Need-count-requires
+count-requires c κs = search needs
+
 returns-2 : tie.Need-returns-2
 unfolding standing
-returns-2 c = rw (hung (c .before .before .before .before .before), le-leb _ _ (c .if2 .taken))
+returns-2 c =
+    rw (hung (c .before .before .before .before .before .before .before .before .before), le-leb _ _ (c .before .before .before .before .if2 .taken), ← c .before .before .count .ensures, ← c .before .before .before .at .ensures)
 
 returns-3 : tie.Need-returns-3
 unfolding standing
@@ -40,4 +47,4 @@ returns-4 c = rw (hung (c .before .before .before .before .before .before), lt-l
 
 pub standing-of-spec : {M : Type 1} → statement M
 standing-of-spec =
-    tie.close (tie.spec hangs-together-requires returns returns-2 returns-3 returns-4)
+    tie.close (tie.spec hangs-together-requires returns at-requires count-requires returns-2 returns-3 returns-4)

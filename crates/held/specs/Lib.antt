@@ -1,0 +1,4 @@
+pub mod Slots
+pub mod Hanging
+pub mod Holding
+pub mod Releasing
