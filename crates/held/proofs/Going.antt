@@ -3,7 +3,7 @@
 use Prim.Native.Nat.{ℕ, zero, suc, _+_, _-_, _*_, _%_, _≤_, _<_}
 use mathlib.Core.Path.{_≡_, refl, ap, sym, _∙_}
 use mathlib.Core.List.{List, [], _∷_, _++_}
-use mathlib.Core.Bool.{Bool, true, false, not, _&&_, or-true}
+use mathlib.Core.Bool.{Bool, true, false, not, or-true, and-false}
 use native.Mathlib.Omega.{arith}
 use borrow.Author.Tests.{le-leb, lt-leb}
 use lib.ListN.{length, take, length-drop, length-append}
@@ -19,10 +19,6 @@ use Rattle.held.specs.Hanging.{every, placed, inPlace, fits, sound}
 use Rattle.held.specs.Releasing.{run, heldFrom, Fitting}
 use Rattle.held.proofs.Hangs.{sound-fits, fits-at}
 use Rattle.held.proofs.Releases.{run-within, run-full}
-
--- the last of n
-some : (n : ℕ) → 0 < n → n ≡ suc (n - 1)
-some n h = omega arith
 
 one-more : (m : ℕ) → suc m ≡ m + 1
 one-more m = omega arith
@@ -97,10 +93,7 @@ module _ (held next top d : ℕ) where
   own-slot e z = rw (e, z)
 
   pub above-top : full held (next + d) ≡ true → top < next + d → placed held next top d ≡ false
-  above-top e l = rw (e, lt-leb (next + d) top l) (and-no (leb 1 d)) where
-    and-no : (b : Bool) → (b && false) ≡ false
-    and-no true = refl
-    and-no false = refl
+  above-top e l = rw (e, lt-leb (next + d) top l) (and-false (leb 1 d))
 
 module _ (held : ℕ) (area : List ℕ) (i : ℕ) where
   pub free-fits : isFull held i ≡ false → fits held area i ≡ true
