@@ -6,6 +6,7 @@ use denote.Ref.{now}
 use Rattle.flat.proofs.Outcomes.{Answered, Determined, same-answer, same-flat-reply}
 use Rattle.flat_record.proofs.Settled.{same-taken}
 use Rattle.flat_log.proofs.Settled.{same-entered}
+use Rattle.flat_pieces.proofs.Settled.{same-piece}
 use Rattle.hinurapay.proofs.reading.hp_soup_read.Kinds as hp-soup-read
 use Rattle.hinurapay.proofs.reading.hp_soup_read.Reads as hp-soup-read-reads
 use Rattle.hinurapay.proofs.reading.hp_ufo_read_down.Kinds as hp-ufo-read-down
@@ -32,6 +33,8 @@ use Rattle.hinurapay.proofs.writing.hp_memx_write.Kinds as hp-memx-writ
 use Rattle.hinurapay.proofs.writing.hp_memx_write.Reads as hp-memx-write-reads
 use Rattle.hinurapay.proofs.writing.hp_tcp_write.Kinds as hp-tcp-write
 use Rattle.hinurapay.proofs.writing.hp_tcp_write.Reads as hp-tcp-write-reads
+use Rattle.hinurapay.proofs.pieces.hp_soup_take.Kinds as hp-soup-take
+use Rattle.hinurapay.proofs.pieces.hp_soup_take.Reads as hp-soup-take-reads
 use Rattle.hinurapay.proofs.keeping.hp_open_ufo.Kinds as hp-open-ufo
 use Rattle.hinurapay.proofs.keeping.hp_open_ufo.Reads as hp-open-ufo-reads
 use Rattle.hinurapay.proofs.keeping.hp_open_memx.Kinds as hp-open-memx
@@ -103,6 +106,9 @@ hp-memx-write-is κs a x y s t = same-flat-reply
 
 hp-tcp-write-is : Determined 2 hp-tcp-write.ps hp-tcp-write.r (List ℕ) (λ κs s. now (s .1 .1 .0)) hp-tcp-write-reads.Post
 hp-tcp-write-is κs a x y s t = same-flat-reply
+
+hp-soup-take-is : Determined 2 hp-soup-take.ps hp-soup-take.r (List ℕ) (λ κs s. now (s .1 .0)) hp-soup-take-reads.Post
+hp-soup-take-is κs a x y s t = same-piece
 
 hp-open-ufo-is : Answered 1 hp-open-ufo.ps hp-open-ufo.r hp-open-ufo-reads.Post
 hp-open-ufo-is κs a x y s t = same-answer

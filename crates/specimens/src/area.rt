@@ -44,7 +44,7 @@ pub(crate) fn bitmap(text: &[u8], k: usize) -> u32 {
     held
 }
 
-fn is_changed(before: &[u8], area: &[u8], place: usize) -> bool {
+pub(crate) fn is_changed(before: &[u8], area: &[u8], place: usize) -> bool {
     if before.len() <= place {
         return false;
     }

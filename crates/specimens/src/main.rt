@@ -12,6 +12,7 @@ mod lending;
 mod memx_packets;
 mod numbers;
 mod page;
+mod pieces;
 mod soup_packets;
 mod tape;
 mod tcp_packets;
@@ -21,6 +22,7 @@ mod visiting;
 mod writing;
 
 use crate::lending::Shelf;
+use crate::pieces::Stream;
 use crate::tape::Tape;
 use bytes::scan;
 use held::slots;
@@ -35,6 +37,7 @@ const BOOK: usize = 131072;
 struct Desk {
     tape: Tape,
     shelf: Shelf,
+    stream: Stream,
 }
 
 // Lines after which the desk is as it was. `mark` is the number behind `>`.
@@ -54,7 +57,12 @@ fn answer(letter: u8, text: &[u8], d: &[u8], mark: usize) {
     }
 }
 
-// `tcp` and `take` have the first letter in common.
+// A stream's lines: `stream` and `feed`.
+fn is_stream(letter: u8, second: u8) -> bool {
+    (letter == b's') & (second == b't') | (letter == b'f') & (second == b'e')
+}
+
+// `tcp` and `take` have the first letter in common, and so have `stream` and `soup`, `feed` and `find`.
 fn answers(
     letter: u8,
     text: &[u8],
@@ -63,22 +71,36 @@ fn answers(
     desk: Desk,
     lent: &mut [u8],
     area: &mut [u8],
+    buffer: &mut [u8],
 ) -> Desk {
+    let mut after = desk;
     if text.len() < 2 {
-        return desk;
+        return after;
     }
-    if (letter == b't') & (text[1] == b'c') {
+    let second = text[1];
+    if (letter == b't') & (second == b'c') {
         tcp_packets::tcp(d);
-        return desk;
+        return after;
+    }
+    if is_stream(letter, second) {
+        after.stream = pieces::line(letter, text, d, desk.stream, buffer);
+        return after;
     }
     answer(letter, text, d, mark);
-    let tape = tape::line(letter, text, d, mark, desk.tape, area);
-    let shelf = lending::line(letter, text, d, mark, desk.shelf, lent);
-    Desk { tape, shelf }
+    after.tape = tape::line(letter, text, d, mark, desk.tape, area);
+    after.shelf = lending::line(letter, text, d, mark, desk.shelf, lent);
+    after
 }
 
 // The desk after a line.
-fn question(letter: u8, text: &[u8], desk: Desk, lent: &mut [u8], area: &mut [u8]) -> Desk {
+fn question(
+    letter: u8,
+    text: &[u8],
+    desk: Desk,
+    lent: &mut [u8],
+    area: &mut [u8],
+    buffer: &mut [u8],
+) -> Desk {
     let mut room = [0u8; page::ROOM];
     if letter < b'a' {
         return desk;
@@ -89,14 +111,21 @@ fn question(letter: u8, text: &[u8], desk: Desk, lent: &mut [u8], area: &mut [u8
         writing::put(text, &room, n, mark);
     }
     if n <= page::ROOM {
-        return answers(letter, text, &room[0..n], mark, desk, lent, area);
+        return answers(letter, text, &room[0..n], mark, desk, lent, area, buffer);
     }
     desk
 }
 
-fn line(letter: u8, text: &[u8], desk: Desk, lent: &mut [u8], area: &mut [u8]) -> Desk {
+fn line(
+    letter: u8,
+    text: &[u8],
+    desk: Desk,
+    lent: &mut [u8],
+    area: &mut [u8],
+    buffer: &mut [u8],
+) -> Desk {
     page::words(text);
-    let after = question(letter, text, desk, lent, area);
+    let after = question(letter, text, desk, lent, area, buffer);
     page::words(b"\n");
     after
 }
@@ -108,16 +137,17 @@ fn fresh() -> Desk {
             size: slots::AREA,
         },
         shelf: lending::empty(0),
+        stream: pieces::fresh(),
     }
 }
 
-// What is lent to the log lies in `lent`, and what is lent to the record in `area`.
-fn run(book: &[u8], lent: &mut [u8], area: &mut [u8]) {
+// What is lent to the log lies in `lent`, what is lent to the record in `area`, and what is lent to a stream in `buffer`.
+fn run(book: &[u8], lent: &mut [u8], area: &mut [u8], buffer: &mut [u8]) {
     let mut desk = fresh();
     let mut at = 0;
     while at < book.len() {
         let end = scan::find(book, at, book.len(), b'\n');
-        desk = line(book[at], &book[at..end], desk, lent, area);
+        desk = line(book[at], &book[at..end], desk, lent, area, buffer);
         if end == book.len() {
             return;
         }
@@ -136,6 +166,7 @@ fn main() {
     let mut book = blank_book();
     let mut lent = [0u8; page::ROOM];
     let mut area = [page::UNTOUCHED; area::ROOM];
+    let mut buffer = [page::UNTOUCHED; pieces::ROOM];
     let n = io::read_full(STDIN_FILENO, &mut book);
-    run(&book[..n], &mut lent, &mut area);
+    run(&book[..n], &mut lent, &mut area, &mut buffer);
 }

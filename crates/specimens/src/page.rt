@@ -176,7 +176,7 @@ pub(crate) fn untouched(out: &[u8; ROOM], place: usize) {
     }
 }
 
-fn written(out: &[u8], length: usize) {
+pub(crate) fn written(out: &[u8], length: usize) {
     if out.len() < length {
         return;
     }

@@ -13,8 +13,9 @@ fn accepted(session: Name, number: Sequence) {
     }
 }
 
-pub(crate) fn soup(d: &[u8]) {
-    match reading::read(d) {
+// What a packet says whose bytes are d.
+pub(crate) fn tell(said: Reading, d: &[u8]) {
+    match said {
         Reading::Refused(n) => page::refused(n),
         Reading::Debug { start, length } => page::part(b"\n= debug", d, start, length),
         Reading::Accept { session, number } => accepted(session, number),
@@ -35,4 +36,8 @@ pub(crate) fn soup(d: &[u8]) {
         Reading::ClientHeartbeat => page::words(b"\n= client heartbeat"),
         Reading::Logout => page::words(b"\n= logout"),
     }
+}
+
+pub(crate) fn soup(d: &[u8]) {
+    tell(reading::read(d), d);
 }

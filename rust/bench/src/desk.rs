@@ -23,6 +23,8 @@ pub trait Desk {
     type Record;
     /// Where a record's early messages are held.
     type Area;
+    /// A Soup stream between two pieces, and its buffer.
+    type Pieces;
     /// A log over lent bytes.
     type Log<'a>;
 
@@ -34,6 +36,14 @@ pub trait Desk {
     fn read_login(packet: &[u8]) -> Result<Login, u8>;
     /// The packet of a login.
     fn write_login<'a>(login: &Login, out: &'a mut [u8]) -> &'a [u8];
+
+    /// A stream of which nothing came yet.
+    fn pieces() -> Self::Pieces;
+    /// Feeds a piece; what its packets say: a message with its number, or a login with that of the
+    /// first message.
+    fn feed(pieces: &mut Self::Pieces, piece: &[u8], each: impl FnMut(Seen<'_>));
+    /// The number of the next message of a stream.
+    fn next_number(pieces: &Self::Pieces) -> u64;
 
     fn open_ufo(name: [u8; 10]) -> Self::Record;
     fn open_memx(session: u64) -> Self::Record;
@@ -139,6 +149,17 @@ macro_rules! packets {
     };
 }
 
+/// What is handed out of a stream, which both crates name alike.
+macro_rules! handed {
+    ($desk:ident, $handed:expr) => {
+        match ($handed.packet.expect(REFUSED), $handed.number) {
+            ($desk::soup::Packet::Sequenced(payload), Some(number)) => seen(number.0, 1, payload),
+            ($desk::soup::Packet::Accepted { next, .. }, None) => seen(next.0, 0, &[]),
+            other => panic!("{other:?}"),
+        }
+    };
+}
+
 fn seen(first: u64, count: u16, body: &[u8]) -> Seen<'_> {
     Seen { first, count, body }
 }
@@ -149,9 +170,25 @@ pub struct Proved;
 impl Desk for Proved {
     type Record = hinurapay::Record;
     type Area = hinurapay::Area;
+    type Pieces = hinurapay::Pieces;
     type Log<'a> = hinurapay::Log<'a>;
 
     packets!(hinurapay);
+
+    fn pieces() -> Self::Pieces {
+        hinurapay::Pieces::new()
+    }
+
+    fn feed(pieces: &mut Self::Pieces, piece: &[u8], mut each: impl FnMut(Seen<'_>)) {
+        let mut fed = pieces.feed(piece);
+        while let Some(handed) = fed.next() {
+            each(handed!(hinurapay, handed));
+        }
+    }
+
+    fn next_number(pieces: &Self::Pieces) -> u64 {
+        pieces.next_number().map_or(0, |next| next.0)
+    }
 
     fn open_ufo(name: [u8; 10]) -> Self::Record {
         hinurapay::Record::open_ufo(hinurapay::Name(name)).expect(REFUSED)
@@ -200,9 +237,28 @@ pub struct Ordinary;
 impl Desk for Ordinary {
     type Record = ordinary::record::Record;
     type Area = [u8; ordinary::held::AREA];
+    type Pieces = (
+        ordinary::soup_pieces::Pieces,
+        [u8; ordinary::soup_pieces::BUFFER],
+    );
     type Log<'a> = (ordinary::lend::Log, &'a mut [u8]);
 
     packets!(ordinary::kinds);
+
+    fn pieces() -> Self::Pieces {
+        let pieces = ordinary::soup_pieces::Pieces::default();
+        (pieces, [0; ordinary::soup_pieces::BUFFER])
+    }
+
+    fn feed((pieces, buffer): &mut Self::Pieces, mut piece: &[u8], mut each: impl FnMut(Seen<'_>)) {
+        while let Some(handed) = pieces.take(buffer, &mut piece).expect(REFUSED) {
+            each(handed!(ordinary, handed));
+        }
+    }
+
+    fn next_number((pieces, _): &Self::Pieces) -> u64 {
+        pieces.next.0
+    }
 
     fn open_ufo(name: [u8; 10]) -> Self::Record {
         ordinary::record::Record::open_ufo(ordinary::kinds::Name(name)).expect(REFUSED)

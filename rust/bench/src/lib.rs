@@ -9,6 +9,7 @@ mod datagrams;
 mod desk;
 mod log;
 mod login;
+mod pieces;
 mod stream;
 mod tape;
 
@@ -35,7 +36,7 @@ pub struct Replay {
 }
 
 /// Every replay there is.
-pub const REPLAYS: [Replay; 9] = [
+pub const REPLAYS: [Replay; 13] = [
     Replay {
         name: "ufo",
         about: "UFO datagrams of 50 messages, each read and then taken into a session record",
@@ -65,6 +66,30 @@ pub const REPLAYS: [Replay; 9] = [
         about: "sequenced Soup packets, each read",
         proved: stream::replay::<Soup, Proved>,
         ordinary: stream::replay::<Soup, Ordinary>,
+    },
+    Replay {
+        name: "pieces-1",
+        about: "a Soup stream in pieces of one byte, its packets put together, read and numbered",
+        proved: pieces::replay::<Proved, 1>,
+        ordinary: pieces::replay::<Ordinary, 1>,
+    },
+    Replay {
+        name: "pieces-7",
+        about: "the same in pieces of 7 bytes",
+        proved: pieces::replay::<Proved, 7>,
+        ordinary: pieces::replay::<Ordinary, 7>,
+    },
+    Replay {
+        name: "pieces-1400",
+        about: "the same in pieces of 1,400 bytes",
+        proved: pieces::replay::<Proved, 1400>,
+        ordinary: pieces::replay::<Ordinary, 1400>,
+    },
+    Replay {
+        name: "pieces-65536",
+        about: "the same in pieces of 65,536 bytes",
+        proved: pieces::replay::<Proved, 65_536>,
+        ordinary: pieces::replay::<Ordinary, 65_536>,
     },
     Replay {
         name: "login",

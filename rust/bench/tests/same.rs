@@ -2,15 +2,26 @@
 
 use bench::{REPLAYS, TURN};
 
+/// How many turns of the tape are replayed; in the last a Soup stream is more than two of the longest
+/// pieces.
+const TURNS: [u64; 4] = [1, 2, 3, 12];
+
 #[test]
 fn both_desks_do_the_same() {
     for replay in &REPLAYS {
         let mut sums = Vec::new();
-        for turns in 1..=3 {
+        for turns in TURNS {
             let sum = (replay.proved)(turns * TURN);
             assert_eq!(sum, (replay.ordinary)(turns * TURN), "{}", replay.name);
             assert!(!sums.contains(&sum), "{}", replay.name);
             sums.push(sum);
         }
     }
+}
+
+#[test]
+fn a_stream_comes_to_the_same_wherever_it_is_cut() {
+    let pieces = REPLAYS.iter().filter(|one| one.name.starts_with("pieces-"));
+    let sums: Vec<u64> = pieces.map(|one| (one.proved)(12 * TURN)).collect();
+    assert_eq!(sums, [sums[0]; 4]);
 }

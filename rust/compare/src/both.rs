@@ -26,8 +26,8 @@ macro_rules! answers {
 }
 
 answers! {
-    hp_read hp_wrote hp_block hp_tcp_reading hp_opened hp_taken hp_standing hp_range hp_timed hp_wait
-    hp_asked hp_yes hp_logged
+    hp_read hp_wrote hp_block hp_piece hp_tcp_reading hp_opened hp_taken hp_standing hp_range hp_timed
+    hp_wait hp_asked hp_yes hp_logged
 }
 
 /// What both desks answered, and area and output as both left them.

@@ -1,7 +1,9 @@
 //! The cases of every function of the C face.
 
+mod pieces;
 mod record;
 
+pub use pieces::fed;
 pub use record::{taken, ToTake};
 
 use crate::both::{blank, both, Agreed, Difference};
@@ -25,7 +27,7 @@ const TCP: usize = 65_538;
 const FIXED: usize = 64;
 
 /// Every function of the face with its cases.
-pub const FUNCTIONS: [(&str, Case); 29] = [
+pub const FUNCTIONS: [(&str, Case); 30] = [
     ("hp_soup_read", soup_read),
     ("hp_ufo_read_down", ufo_read_down),
     ("hp_ufo_read_up", ufo_read_up),
@@ -37,6 +39,7 @@ pub const FUNCTIONS: [(&str, Case); 29] = [
     ("hp_ufo_write_message", ufo_write_message),
     ("hp_ufo_add_message", ufo_add_message),
     ("hp_memx_write", memx_write),
+    ("hp_soup_take", pieces::take),
     ("hp_tcp_read", tcp_read),
     ("hp_tcp_write", tcp_write),
     ("hp_open_ufo", record::open_ufo),

@@ -12,8 +12,8 @@ mod smallest;
 pub mod twin;
 
 pub use both::{Agreed, Difference};
+pub use cases::{fed, taken, ToTake, FUNCTIONS};
 pub use cases::{memx_both_ways, memx_written, soup_both_ways, soup_written};
-pub use cases::{taken, ToTake, FUNCTIONS};
 
 use dice::Dice;
 

@@ -4,12 +4,14 @@ mod decimals;
 mod held;
 mod kept;
 mod packets;
+mod pieces;
 mod tcp;
 
 pub use decimals::*;
 pub use held::*;
 pub use kept::*;
 pub use packets::*;
+pub use pieces::*;
 pub use tcp::*;
 
 use crate::dice::Dice;

@@ -61,6 +61,8 @@ twins! {
     hp_read: refusal packet;
     hp_wrote: refusal bytes;
     hp_block: refusal start length next;
+    hp_pieces: kept dropping next;
+    hp_piece: refusal place what why number bytes packet pieces;
     hp_tcp: r#type letter count session number top start length;
     hp_tcp_reading: refusal packet;
     hp_record: style ended name session next top asked held;

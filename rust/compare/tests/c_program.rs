@@ -65,7 +65,7 @@ fn every_function_of_the_header_answers_a_c_program() {
         assert!(program.contains(&format!("{name}(")), "{name} is called");
         functions += 1;
     }
-    assert_eq!(functions, 29);
+    assert_eq!(functions, 30);
     runs(&source, "all_functions");
 }
 

@@ -80,6 +80,11 @@ functions! {
     /// Writes a MEMX-UDP packet with these extra bytes in its header, whatever the field `extra` says.
     hp_memx_write(fields: hp_packet, lent extra, lent body, room out) -> hp_wrote;
 
+    /// Takes a piece of a Soup stream from a place on, up to the first packet that ends or is refused,
+    /// or to the piece's end; the buffer has 4,098 bytes or more. Refused: 10, then 4 for a place past
+    /// the piece's end.
+    hp_soup_take(pieces: hp_pieces, room buffer, lent piece, place: u64) -> hp_piece;
+
     /// Reads one whole MEMX-TCP packet, its three-byte header first.
     hp_tcp_read(lent packet) -> hp_tcp_reading;
     /// Writes a MEMX-TCP packet; `body` is the token or the payload.

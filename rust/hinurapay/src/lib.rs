@@ -1,4 +1,4 @@
-//! The proved recording desk for Rust: packets, the session record, patience, the lending end.
+//! The proved recording desk for Rust: packets, Soup streams, the session record, patience, the lending end.
 //!
 //! Everything here calls the proved archive through its C face. Packets and blocks are read as
 //! slices of the caller's bytes, nothing is allocated, and what is refused changes nothing. The
@@ -42,6 +42,7 @@ mod lend;
 pub mod memx;
 pub mod memx_tcp;
 mod missing;
+mod pieces;
 mod record;
 mod refusal;
 pub mod soup;
@@ -55,14 +56,15 @@ pub use clock::{heartbeat_due, line_lost, Patience, Sheet};
 pub use kinds::{Name, Password, Reason, Sequence, SessionId, Tick, User};
 pub use lend::Log;
 pub use missing::Missing;
+pub use pieces::{Fed, Handed, Pieces};
 pub use record::{Asked, Record, Standing, Taken};
 pub use refusal::Refusal;
 
 /// The C face as plain structs and safe functions, name for name; the comparison uses it.
 ///
 /// Every answer begins with `refusal`: 0 where what was given is taken, else the number that
-/// document 01 gives. On a refusal every other number of the answer is 0, a record, sheet or log
-/// in the answer equals the one that was given, and no lent byte has changed.
+/// document 01 gives. On a refusal every other number of the answer is 0, a record, sheet, log or
+/// stream in the answer equals the one that was given, and no lent byte has changed.
 pub mod flat {
     pub use crate::ffi::*;
     pub use crate::structs::*;

@@ -47,13 +47,13 @@ refusals! {
     Bound = 7: "a number above its bound";
     Linefeed = 8: "a Soup linefeed before the last byte";
     Room = 9: "lent output that is too short";
-    Broken = 10: "a record, sheet or log that doesn't hang together";
+    Broken = 10: "a record, sheet, log or stream that doesn't hang together";
     OtherSession = 11: "a MEMX session other than the record's";
     Contradiction = 12: "news that contradict what is known";
     AfterEnd = 13: "a message added, or an end declared, after the end";
     ClockBack = 14: "a clock reading below the last one";
     Range = 15: "a measure or a wait rule out of range";
-    NotForRecord = 16: "a readable packet that isn't for the session record";
+    NotForRecord = 16: "a readable packet that isn't for the session record, or out of turn in its stream";
 }
 
 impl Refusal {

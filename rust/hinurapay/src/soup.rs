@@ -58,10 +58,16 @@ pub enum Packet<'a> {
 #[inline]
 pub fn read(packet: &[u8]) -> Result<Packet<'_>, Refusal> {
     let read = hp_soup_read(packet);
-    let fields = taken(read.refusal, read.packet)?;
-    let payload = || part(packet, fields.start, fields.length);
+    taken(read.refusal, ())?;
+    Ok(of(&read.packet, packet))
+}
+
+/// The packet of which a reader found these fields in these bytes.
+#[inline]
+pub(crate) fn of<'a>(fields: &hp_packet, bytes: &'a [u8]) -> Packet<'a> {
+    let payload = || part(bytes, fields.start, fields.length);
     let (session, next) = (Name(fields.name), Sequence(fields.number));
-    Ok(match fields.r#type {
+    match fields.r#type {
         b'+' => Packet::Debug(payload()),
         b'S' => Packet::Sequenced(payload()),
         b'U' => Packet::Unsequenced(payload()),
@@ -77,7 +83,7 @@ pub fn read(packet: &[u8]) -> Result<Packet<'_>, Refusal> {
             session,
             next,
         },
-    })
+    }
 }
 
 /// Writes a packet and says how many bytes it has; refused as a reader would refuse it, then 9.

@@ -104,6 +104,36 @@ structs! {
         bytes: u64,
     }
 
+    /// How a Soup stream stands between two pieces; all zeros to begin with.
+    hp_pieces {
+        /// How many bytes of an unfinished packet stand at the buffer's start.
+        kept: u64,
+        /// 1 while the rest of an overlong packet is dropped, else 0; another is 10.
+        dropping: u8,
+        /// The number of the next `S`; 0 before Login Accepted.
+        next: u64,
+    }
+
+    /// What a piece of a Soup stream gave, from a place on.
+    hp_piece {
+        /// 0 or why the call was refused.
+        refusal: u64,
+        /// Where to go on in the piece.
+        place: u64,
+        /// 0 the piece is used up and no packet ended; 1 a packet; 2 a refused packet.
+        what: u8,
+        /// 2: why it was refused.
+        why: u64,
+        /// 1, an `S`: the message's number.
+        number: u64,
+        /// 1, 2: the packet is the buffer's first so many bytes; of an overlong one 4,098.
+        bytes: u64,
+        /// 1: its fields, as [`hp_soup_read`](crate::flat::hp_soup_read) gives them.
+        packet: hp_packet,
+        /// The stream afterwards.
+        pieces: hp_pieces,
+    }
+
     /// The fields of one MEMX-TCP packet, those that its type lacks being 0.
     hp_tcp {
         /// 0 to 11, 100 to 104.

@@ -4,6 +4,7 @@
 
 use crate::fields::take;
 use crate::refusal::Refusal;
+use crate::words::each;
 
 /// A word of spaces.
 const BLANK: u64 = each(b' ');
@@ -66,11 +67,6 @@ fn sum(digits: u64) -> Result<u64, Refusal> {
     let twos = digits.wrapping_mul(10 << 8 | 1) >> 8 & 0x00ff_00ff_00ff_00ff;
     let fours = twos.wrapping_mul(100 << 16 | 1) >> 16 & 0x0000_ffff_0000_ffff;
     Ok(fours.wrapping_mul(10_000 << 32 | 1) >> 32)
-}
-
-/// A word that has the same byte eight times.
-const fn each(byte: u8) -> u64 {
-    u64::from_le_bytes([byte; 8])
 }
 
 /// The number as the field that says it.

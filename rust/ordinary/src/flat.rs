@@ -1,9 +1,9 @@
 //! The desk in the shape of the C face: the same functions and structs, name for name.
 //!
 //! Every answer begins with `refusal`: 0 where what was given is taken, else the number that
-//! document 01 gives. On a refusal every other number of the answer is 0, a record, sheet or log
-//! in the answer equals the one that was given, and no lent byte has changed. Bytes that stand for
-//! a style, a flag or a rule come raw and may have any value.
+//! document 01 gives. On a refusal every other number of the answer is 0, a record, sheet, log or
+//! stream in the answer equals the one that was given, and no lent byte has changed. Bytes that stand
+//! for a style, a flag or a rule come raw and may have any value.
 
 #![allow(non_camel_case_types)] // the names are the C face's own
 
@@ -11,12 +11,14 @@ mod clock;
 mod log;
 mod memx_tcp;
 mod packets;
+mod pieces;
 mod record;
 
 pub use clock::*;
 pub use log::*;
 pub use memx_tcp::*;
 pub use packets::*;
+pub use pieces::*;
 pub use record::*;
 
 use crate::refusal::Refusal;

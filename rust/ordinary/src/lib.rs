@@ -33,6 +33,11 @@
 //! - Over 237 extra bytes in writing MEMX-UDP are refused where a reader would refuse the header
 //!   length: after 2 and 3, before any 4.
 //! - A Soup reject whose reason is a linefeed is refused in writing as 8, as in reading.
+//! - Soup off the wire: the reader's refusals come before 16 and 7, and 2 before them all; a linefeed
+//!   alone is a packet of no known type (3). Packets from the client are handed out like the others, so
+//!   is whatever follows a reject or an end of session, and what isn't `S` or `A` may come before
+//!   Login Accepted. An `A` may name 2^64-1 as the next number; each `S` behind it is 7. A buffer may
+//!   be longer than 4,098 bytes: what stands behind them is not looked at, and stays.
 //! - A UFO request has no bound but its bytes.
 //! - A MEMX-TCP length that is not how many bytes follow the header is 4.
 //! - What is wrong with a record's full slots is 10 wherever a record is given; what is wrong with the
@@ -64,5 +69,7 @@ pub mod missing;
 pub mod record;
 pub mod refusal;
 pub mod soup;
+pub mod soup_pieces;
 pub mod text;
 pub mod ufo;
+mod words;

@@ -25,7 +25,7 @@ pub enum Refusal {
     Linefeed = 8,
     /// The lent output is too short.
     Room = 9,
-    /// A record, sheet or log that doesn't hang together.
+    /// A record, sheet, log or stream that doesn't hang together.
     Broken = 10,
     /// A MEMX session other than the record's.
     OtherSession = 11,
@@ -37,7 +37,7 @@ pub enum Refusal {
     ClockBack = 14,
     /// A measure or a wait rule out of range.
     Range = 15,
-    /// A readable packet that isn't for the session record.
+    /// A readable packet that isn't for the session record, or out of turn in its stream.
     NotForRecord = 16,
 }
 
@@ -60,13 +60,13 @@ impl fmt::Display for Refusal {
             Refusal::Bound => "a number above its bound",
             Refusal::Linefeed => "a linefeed before the last byte",
             Refusal::Room => "the lent output is too short",
-            Refusal::Broken => "a record, sheet or log that doesn't hang together",
+            Refusal::Broken => "a record, sheet, log or stream that doesn't hang together",
             Refusal::OtherSession => "another session than the record's",
             Refusal::Contradiction => "a contradiction",
             Refusal::AfterEnd => "the end was declared already",
             Refusal::ClockBack => "the clock went back",
             Refusal::Range => "a measure or a wait rule out of range",
-            Refusal::NotForRecord => "not for the session record",
+            Refusal::NotForRecord => "not for the session record, or out of turn in its stream",
         };
         write!(f, "refused ({}): {reason}", self.number())
     }

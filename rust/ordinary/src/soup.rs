@@ -12,7 +12,8 @@ pub const LIMIT: usize = 1 + PAYLOAD_LIMIT + 1;
 /// The most bytes that a payload may have.
 const PAYLOAD_LIMIT: usize = 4096;
 
-const LINEFEED: u8 = b'\n';
+/// What ends every packet, and stands nowhere else in one.
+pub(crate) const LINEFEED: u8 = b'\n';
 
 /// A packet in either direction.
 #[derive(Clone, Copy, Debug, PartialEq, Eq)]
@@ -69,12 +70,26 @@ pub enum Packet<'a> {
 #[inline]
 pub fn read(packet: &[u8]) -> Result<Packet<'_>, Refusal> {
     measured(packet.len(), LIMIT)?;
+    let (kind, payload) = framed(packet)?;
+    read_payload(kind, payload)
+}
+
+/// Reads a packet that is not too long and has its only linefeed at its end; 3, 4, 5, 6, 7.
+#[inline]
+pub(crate) fn read_line(packet: &[u8]) -> Result<Packet<'_>, Refusal> {
+    let (kind, payload) = framed(packet)?;
+    read_fields(kind, payload)
+}
+
+/// The type, and what stands between it and the last byte, which is a linefeed: 3, 4.
+#[inline]
+fn framed(packet: &[u8]) -> Result<(u8, &[u8]), Refusal> {
     let mut rest = packet;
     let [kind] = take(&mut rest)?;
     let fixed = fixed_payload(kind)?;
     match rest.split_last() {
         Some((&LINEFEED, payload)) if fixed.is_none_or(|length| length == payload.len()) => {
-            read_payload(kind, payload)
+            Ok((kind, payload))
         }
         _ => Err(Refusal::Framing),
     }
@@ -99,6 +114,12 @@ fn read_payload(kind: u8, payload: &[u8]) -> Result<Packet<'_>, Refusal> {
     if payload.contains(&LINEFEED) {
         return Err(Refusal::Linefeed);
     }
+    read_fields(kind, payload)
+}
+
+/// Reads the fields of a payload without a linefeed: 5, 6, 7.
+#[inline]
+fn read_fields(kind: u8, payload: &[u8]) -> Result<Packet<'_>, Refusal> {
     let mut rest = payload;
     match kind {
         b'+' => Ok(Packet::Debug(payload)),

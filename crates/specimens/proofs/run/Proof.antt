@@ -7,16 +7,16 @@ use Rattle.specimens.proofs.run.Statement.{statement}
 use Rattle.specimens.proofs.run.Tie as tie
 
 abbrev Inv-loop : tie.InvT-loop
-Inv-loop book lent₀ area₀ desk₀ at₀ lent area desk at = (at ≤ length book) × (length book < 18446744073709551616) × (length lent ≡ length lent₀) × (length area ≡ length area₀)
+Inv-loop book lent₀ area₀ buffer₀ desk₀ at₀ lent area buffer desk at = (at ≤ length book) × (length book < 18446744073709551616) × (length lent ≡ length lent₀) × (length area ≡ length area₀) × (length buffer ≡ length buffer₀)
 
 abbrev μ-loop : tie.MeasureT-loop
-μ-loop book lent₀ area₀ desk₀ at₀ lent area desk at = length book - at
+μ-loop book lent₀ area₀ buffer₀ desk₀ at₀ lent area buffer desk at = length book - at
 
 fresh-requires : tie.Need-fresh-requires Inv-loop μ-loop
 fresh-requires c κs = search needs
 
 loop-holds : tie.Need-loop-holds Inv-loop μ-loop
-loop-holds c = (omega arith, omega arith, refl, refl)
+loop-holds c = (omega arith, omega arith, refl, refl, refl)
 
 find-requires : tie.Need-find-requires Inv-loop μ-loop
 find-requires c κs = (omega arith, omega arith)
@@ -42,6 +42,9 @@ same-length c = omega arith
 same-length-2 : tie.Need-same-length-2 Inv-loop μ-loop
 same-length-2 c = omega arith
 
+same-length-3 : tie.Need-same-length-3 Inv-loop μ-loop
+same-length-3 c = omega arith
+
 returns : tie.Need-returns Inv-loop μ-loop
 returns c = search needs
 
@@ -52,13 +55,16 @@ loop-less : tie.Need-loop-less Inv-loop μ-loop
 loop-less c = omega arith
 
 loop-again : tie.Need-loop-again Inv-loop μ-loop
-loop-again c = (omega arith, omega arith, omega arith, omega arith)
-
-same-length-3 : tie.Need-same-length-3 Inv-loop μ-loop
-same-length-3 c = omega arith
+loop-again c = (omega arith, omega arith, omega arith, omega arith, omega arith)
 
 same-length-4 : tie.Need-same-length-4 Inv-loop μ-loop
 same-length-4 c = omega arith
+
+same-length-5 : tie.Need-same-length-5 Inv-loop μ-loop
+same-length-5 c = omega arith
+
+same-length-6 : tie.Need-same-length-6 Inv-loop μ-loop
+same-length-6 c = omega arith
 
 returns-2 : tie.Need-returns-2 Inv-loop μ-loop
 returns-2 c = search needs
@@ -79,10 +85,12 @@ run-spec =
     line-requires
     same-length
     same-length-2
+    same-length-3
     returns
     add-at
     loop-less
     loop-again
-    same-length-3
     same-length-4
+    same-length-5
+    same-length-6
     returns-2)

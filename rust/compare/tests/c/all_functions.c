@@ -87,6 +87,116 @@ static void soup(void) {
     CHECK(wrote(hp_soup_write(of_type('S'), HELLO, sizeof HELLO, out, 7), "Shello\n", 7));
 }
 
+/* the buffer of a stream, which holds FRESH wherever nothing was laid */
+enum { LONGEST = 4098 };
+static uint8_t buffer[LONGEST + 2];
+
+/* these bytes stand at the buffer's start, and nothing after them was touched */
+static int kept_is(const void *bytes, size_t length) {
+    for (size_t place = length; place < sizeof buffer; place++)
+        if (buffer[place] != FRESH) return 0;
+    return memcmp(buffer, bytes, length) == 0;
+}
+
+static int stands(hp_pieces pieces, uint64_t kept, uint8_t dropping, uint64_t next) {
+    return pieces.kept == kept && pieces.dropping == dropping && pieces.next == next;
+}
+
+/* lays these bytes into a fresh buffer */
+static void keep(const void *bytes, size_t length) {
+    memset(buffer, FRESH, sizeof buffer);
+    memcpy(buffer, bytes, length);
+}
+
+/* feeds a piece from a place on */
+static hp_piece feed(hp_pieces pieces, const char *piece, uint64_t place) {
+    return hp_soup_take(pieces, buffer, LONGEST, (const uint8_t *)piece, strlen(piece), place);
+}
+
+/* the call is refused with that number, and nothing else is in the answer but the stream as it was given */
+static int not_fed(hp_pieces given, size_t room, const char *piece, uint64_t place, uint64_t refusal) {
+    uint8_t before[sizeof buffer];
+    memcpy(before, buffer, sizeof buffer);
+    hp_piece fed = hp_soup_take(given, buffer, room, (const uint8_t *)piece, strlen(piece), place);
+    return fed.refusal == refusal && fed.place == 0 && fed.what == 0 && fed.why == 0 && fed.number == 0 && fed.bytes == 0
+        && fed.packet.type == 0 && stands(fed.pieces, given.kept, given.dropping, given.next)
+        && memcmp(buffer, before, sizeof buffer) == 0;
+}
+
+/* a login, a message in three pieces, a heartbeat: each packet stands in the buffer */
+static void pieces(void) {
+    static const char login[] = "A      8841                   7\nSa";
+    keep("", 0);
+    hp_piece fed = feed((hp_pieces){0, 0, 0}, login, 0);
+    CHECK(fed.refusal == 0 && fed.what == 1 && fed.place == 32 && fed.bytes == 32 && fed.number == 0 && fed.why == 0);
+    CHECK(fed.packet.type == 'A' && fed.packet.number == 7 && memcmp(fed.packet.name, "      8841", 10) == 0);
+    CHECK(stands(fed.pieces, 0, 0, 7) && kept_is(login, 32));
+    keep("", 0);
+    fed = feed(fed.pieces, login, 32);
+    CHECK(fed.refusal == 0 && fed.what == 0 && fed.place == 34 && fed.bytes == 0 && fed.packet.type == 0);
+    CHECK(stands(fed.pieces, 2, 0, 7) && kept_is("Sa", 2));
+    fed = feed(fed.pieces, "b", 0);
+    CHECK(fed.what == 0 && fed.place == 1 && stands(fed.pieces, 3, 0, 7) && kept_is("Sab", 3));
+    fed = feed(fed.pieces, "c\nH\n", 0);
+    CHECK(fed.refusal == 0 && fed.what == 1 && fed.place == 2 && fed.number == 7 && fed.bytes == 5 && kept_is("Sabc\n", 5));
+    CHECK(fed.packet.type == 'S' && fed.packet.start == 1 && fed.packet.length == 3 && stands(fed.pieces, 0, 0, 8));
+    fed = feed(fed.pieces, "c\nH\n", 2);
+    CHECK(fed.what == 1 && fed.place == 4 && fed.number == 0 && fed.packet.type == 'H' && kept_is("H\nbc\n", 5));
+    fed = feed(fed.pieces, "c\nH\n", 4); /* at the end there is nothing */
+    CHECK(fed.refusal == 0 && fed.what == 0 && fed.place == 4 && stands(fed.pieces, 0, 0, 8) && kept_is("H\nbc\n", 5));
+}
+
+/* a packet that is refused is used up, has no fields, and leaves the count */
+static int used_up(uint64_t next, const char *packet, uint64_t why) {
+    size_t length = strlen(packet);
+    keep("", 0);
+    hp_piece fed = feed((hp_pieces){0, 0, next}, packet, 0);
+    return fed.refusal == 0 && fed.what == 2 && fed.why == why && fed.number == 0 && fed.place == length && fed.bytes == length
+        && fed.packet.type == 0 && fed.packet.start == 0 && stands(fed.pieces, 0, 0, next) && kept_is(packet, length);
+}
+
+static void refused_pieces(void) {
+    CHECK(used_up(0, "Sab\n", 16) && used_up(1, "A      8841                   7\n", 16));
+    CHECK(used_up(UINT64_MAX, "S\n", 7) && used_up(0, "A      884118446744073709551616\n", 7));
+    CHECK(used_up(1, "\n", 3) && used_up(1, "Hx\n", 4) && used_up(1, "JX\n", 5) && used_up(1, "A                             7\n", 6));
+    keep("", 0);
+    hp_piece fed = feed((hp_pieces){0, 0, UINT64_MAX - 1}, "S\n", 0);
+    CHECK(fed.what == 1 && fed.number == UINT64_MAX - 1 && stands(fed.pieces, 0, 0, UINT64_MAX));
+    fed = feed((hp_pieces){0, 0, 0}, "A      884118446744073709551615\n", 0);
+    CHECK(fed.what == 1 && stands(fed.pieces, 0, 0, UINT64_MAX));
+
+    hp_pieces given = {2, 0, 3};
+    keep("Sa", 2);
+    CHECK(not_fed(given, LONGEST - 1, "\n", 0, 10) && not_fed(given, LONGEST, "\n", 2, 4) && not_fed(given, LONGEST, "", 1, 4));
+    CHECK(not_fed((hp_pieces){2, 1, 3}, LONGEST, "\n", 2, 10) && not_fed((hp_pieces){0, 2, 3}, LONGEST, "\n", 2, 10));
+    CHECK(not_fed((hp_pieces){4098, 0, 3}, sizeof buffer, "\n", 0, 10) && not_fed((hp_pieces){UINT64_MAX, 0, 3}, LONGEST, "", 0, 10));
+    keep("\na", 2);
+    CHECK(not_fed(given, LONGEST, "", 0, 10));
+    given.kept = 0;
+    fed = hp_soup_take(given, buffer, LONGEST, NULL, 0, 0);
+    CHECK(fed.refusal == 0 && fed.what == 0 && fed.place == 0 && stands(fed.pieces, 0, 0, 3) && kept_is("\na", 2));
+}
+
+/* a packet as long as may be is taken; an overlong one is refused once, and dropped up to its linefeed */
+static void overlong_piece(void) {
+    static char longest[LONGEST];
+    memset(longest, 'x', sizeof longest);
+    longest[0] = 'S';
+    keep(longest, LONGEST - 1);
+    hp_pieces given = {LONGEST - 1, 0, 5};
+    hp_piece fed = feed(given, "\nS", 0);
+    CHECK(fed.what == 1 && fed.number == 5 && fed.place == 1 && fed.bytes == LONGEST && fed.packet.length == 4096);
+    CHECK(stands(fed.pieces, 0, 0, 6) && buffer[LONGEST - 1] == '\n' && buffer[LONGEST] == FRESH);
+    keep(longest, LONGEST - 1);
+    fed = feed(given, "xS\n", 0);
+    CHECK(fed.refusal == 0 && fed.what == 2 && fed.why == 2 && fed.place == 1 && fed.bytes == LONGEST && fed.packet.type == 0);
+    CHECK(stands(fed.pieces, 0, 1, 5) && kept_is(longest, LONGEST));
+    fed = feed(fed.pieces, "no linefeed", 0);
+    CHECK(fed.refusal == 0 && fed.what == 0 && fed.place == 11 && stands(fed.pieces, 0, 1, 5) && kept_is(longest, LONGEST));
+    fed = feed(fed.pieces, "S\nS!\n", 0);
+    CHECK(fed.what == 1 && fed.number == 5 && fed.place == 5 && fed.bytes == 3 && stands(fed.pieces, 0, 0, 6));
+}
+
 static void ufo_down(void) {
     /* 6 "HI", 7 empty */
     static const uint8_t packet[14] = {0x53, 0, 0, 0, 6, 0, 2, 0, 2, 0x48, 0x49, 0, 0, 0};
@@ -529,6 +639,9 @@ static void lending(void) {
 
 int main(void) {
     soup();
+    pieces();
+    refused_pieces();
+    overlong_piece();
     ufo_down();
     ufo_up();
     adding();

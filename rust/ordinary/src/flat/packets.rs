@@ -158,7 +158,7 @@ pub fn hp_memx_write(fields: hp_packet, extra: &[u8], body: &[u8], out: &mut [u8
 }
 
 /// A place that no slice could have is past every slice's end.
-fn spot(place: u64) -> usize {
+pub(super) fn spot(place: u64) -> usize {
     usize::try_from(place).unwrap_or(usize::MAX)
 }
 
@@ -202,7 +202,7 @@ fn bare(kind: u8) -> hp_packet {
     }
 }
 
-fn from_soup(packet: &soup::Packet<'_>) -> hp_packet {
+pub(super) fn from_soup(packet: &soup::Packet<'_>) -> hp_packet {
     match *packet {
         soup::Packet::Debug(payload) => with_body(b'+', 1, payload),
         soup::Packet::Sequenced(payload) => with_body(b'S', 1, payload),

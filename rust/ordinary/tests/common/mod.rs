@@ -4,6 +4,7 @@
 
 pub mod desk;
 pub mod had;
+pub mod stream;
 
 use ordinary::held::{Held, AREA, SLOT};
 use ordinary::record::Record;

@@ -1,0 +1,9 @@
+pub mod Flattening
+pub mod Fields
+pub mod Texts
+pub mod Handing
+pub mod Again
+pub mod Calls
+pub mod Callers
+pub mod Contracted
+pub mod Settled

@@ -1,0 +1,4 @@
+pub mod Machine
+pub mod Taking
+pub mod Steps
+pub mod Calling
