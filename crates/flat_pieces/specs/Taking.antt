@@ -7,7 +7,7 @@ use lib.ListN.{length}
 use Rattle.wire.specs.Checks.{Verdict, refused, taken, _else_, checked, _into_}
 use Rattle.wire.specs.Reply.{leftOf}
 use Rattle.soup_pieces.specs.Machine.{State, packet, refusal, First, usedUp, given}
-use Rattle.soup_pieces.specs.Taking.{taking, standing}
+use Rattle.soup_pieces.specs.Taking.{piecesOf as handedBack, taking, standing}
 use Rattle.soup_pieces.specs.declared.Pieces.{Pieces}
 use Rattle.flat.specs.Flag.{isFlag, says, byteOf}
 use Rattle.flat_packet.specs.Packets.{nothing}
@@ -23,8 +23,9 @@ piecesOf p = record { kept = p .kept; dropping = says (p .dropping); next = reco
 abbrev pub flatPieces : Pieces → FlatPieces
 flatPieces p = record { kept = p .kept; dropping = byteOf (p .dropping); next = p .next .0 }
 
+-- the same of a state as the room hands it back
 abbrev pub flatState : State → FlatPieces
-flatState s = record { kept = length (s .kept); dropping = byteOf (s .dropping); next = s .next }
+flatState s = flatPieces (handedBack s)
 
 -- the entry: a flag that is none is 10, before all else
 abbrev pub takeVerdict : FlatPieces → (buffer piece : List ℕ) (place : ℕ) → Verdict First
