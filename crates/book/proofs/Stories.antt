@@ -27,10 +27,11 @@ use Rattle.record.specs.declared.Record.{Record}
 use Rattle.record.specs.declared.Session.{Session}
 use Rattle.record.specs.declared.Session.the-variants.{Memx}
 use Rattle.hearing.specs.Hearing.{hear}
+use Rattle.taking.specs.Room.{ufoRoom as enough, memxRoom, roomFor}
 use Rattle.taking.specs.Taking.{Taking, areaOf, reporting, taking}
 use Rattle.taking.proofs.Kept.{taking-sound}
 use Rattle.in_place.specs.Lent.{onceTaken}
-use Rattle.book.specs.Entry.{Line, Says, story, heldAmong, enough, retells, retold}
+use Rattle.book.specs.Entry.{Line, Says, story, heldAmong, retells, retold}
 use Rattle.book.specs.Book.{s8841, hi, buy, sell, ok, empty, headers, tale, gaps}
 
 -- what is unfolded to open a record, to see how it stands, and to take a datagram
@@ -49,7 +50,7 @@ worked-out = tt
 -- a story line by line: the verdict on a datagram, and what it says
 data Tells : Record → List ℕ → List Line → Type 0 where
   over : {r : Record} {area : List ℕ} → Tells r area []
-  takes : {r : Record} {area : List ℕ} {l : Line} {ls : List Line} (v : Verdict Taking) → taking r area (l .datagram) enough ≡ v → retells r (l .datagram) v ≡ l → Tells (onceTaken r v) (areaOf v area) ls → Tells r area (l ∷ ls)
+  takes : {r : Record} {area : List ℕ} {l : Line} {ls : List Line} (v : Verdict Taking) → taking r area (l .datagram) (roomFor (r .session)) ≡ v → retells r (l .datagram) v ≡ l → Tells (onceTaken r v) (areaOf v area) ls → Tells r area (l ∷ ls)
 
 told : {r : Record} {area : List ℕ} {ls : List Line} → Tells r area ls → retold r area ls ≡ ls
 told over = refl
@@ -84,15 +85,15 @@ module _ (area : List ℕ) (slots : areaSize ≤ length area) where
   unfolding stands
   empty-told = takes _ no-messages refl over
 
-  hears-none : taking (heard 1 0 false) area (bytesOf 18 0x00_12_0000000000000001_0000000000000000) enough ≡ leaves [] (heard 1 0 false) area
+  hears-none : taking (heard 1 0 false) area (bytesOf 18 0x00_12_0000000000000001_0000000000000000) memxRoom ≡ leaves [] (heard 1 0 false) area
   unfolding worked-out
   hears-none = rw (none-sound area slots)
 
-  hears-two : taking (heard 1 0 false) area (bytesOf 27 0x02_13_0000000000000001_0000000000000001_AB_0002_0002_4849_0000) enough ≡ leaves (hi ∷ [] ∷ []) (heard 3 2 false) area
+  hears-two : taking (heard 1 0 false) area (bytesOf 27 0x02_13_0000000000000001_0000000000000001_AB_0002_0002_4849_0000) memxRoom ≡ leaves (hi ∷ [] ∷ []) (heard 3 2 false) area
   unfolding worked-out
   hears-two = rw (none-sound area slots)
 
-  shuts-down : taking (heard 3 2 false) area (bytesOf 20 0x01_14_0000000000000001_0000000000000002_ABCD) enough ≡ leaves [] (heard 3 2 true) area
+  shuts-down : taking (heard 3 2 false) area (bytesOf 20 0x01_14_0000000000000001_0000000000000002_ABCD) memxRoom ≡ leaves [] (heard 3 2 true) area
   unfolding worked-out
   shuts-down = rw (none-sound area slots)
 

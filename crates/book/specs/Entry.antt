@@ -22,6 +22,7 @@ use Rattle.clock.specs.declared.patience.Patience.{Patience}
 use Rattle.record.specs.Record.{fresh, opening}
 use Rattle.held.specs.Slots.{areaSize}
 use Rattle.missing.specs.Missing.{isHeld}
+use Rattle.taking.specs.Room.{roomFor}
 use Rattle.taking.specs.Taking.{Taking, taking, areaOf}
 use Rattle.record.specs.Standing.{State, standing}
 use Rattle.in_place.specs.Lent.{onceTaken}
@@ -72,10 +73,6 @@ heldAmong held next m (suc n) =
 abbrev pub heldBy : Record → List ℕ
 heldBy r = heldAmong (r .held) (r .next .0) (r .next .0 + 1) 31
 
--- room for a packet and all held messages: 1,472 bytes and 31 times as many
-abbrev pub enough : ℕ
-enough = 47104
-
 -- a datagram, with what the record makes of it
 abbrev pub retells : Record → List ℕ → Verdict Taking → Line
 retells kept datagram verdict =
@@ -89,11 +86,11 @@ retells kept datagram verdict =
       stands = standing after;
     }
 
--- the same datagrams; the area is lent back as it was left
+-- the same datagrams, with room for a packet and all held messages; the area is lent back as it was left
 abbrev pub retold : Record → List ℕ → List Line → List Line
 retold kept area [] = []
 retold kept area (l ∷ ls) =
-    let verdict = taking kept area (l .datagram) enough in
+    let verdict = taking kept area (l .datagram) (roomFor (kept .session)) in
     retells kept (l .datagram) verdict ∷ retold (onceTaken kept verdict) (areaOf verdict area) ls
 
 abbrev pub untimed : Sheet

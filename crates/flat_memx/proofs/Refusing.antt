@@ -9,11 +9,10 @@ use borrow.Author.Tests.{le-leb, lt-leb, ne-eqb}
 use lib.Dec.{leb}
 use lib.ListN.{length}
 use Rattle.wire.specs.Checks.{if_then_else_, _atMost_, refused}
-use Rattle.wire.specs.Datagram.{limit}
 use Rattle.wire.specs.Reply.{settle}
 use Rattle.wire.proofs.Tests.{leb-same}
 use Rattle.memx.specs.Packet as memx
-use Rattle.memx.specs.Packet.{headed}
+use Rattle.memx.specs.Packet.{limit, headed}
 use Rattle.memx.proofs.Verdicts.{headed-verdict, news-verdict}
 use Rattle.flat_packet.specs.declared.Packet.{Packet}
 use Rattle.flat_packet.specs.Fitting.{unfit}

@@ -9,7 +9,6 @@ use borrow.Author.Tests.{leb-true, eqb-true, eqb-false}
 use lib.ListN.{length, getD, take, drop}
 use Rattle.wire.specs.Fields.{Bytes}
 use Rattle.wire.specs.Checks.{if_then_else_, _is_, Verdict, refused, taken}
-use Rattle.wire.specs.Datagram.{opening}
 use Rattle.wire.specs.Reply.{within, settle}
 use Rattle.wire.proofs.Checks.{chosen, not-both}
 use Rattle.wire.proofs.Settling.{within-taken}
@@ -37,7 +36,7 @@ use Rattle.flat_memx.specs.Writing.{memxReply}
 never-0 : (d : List ℕ) → read d ≡ refused 0 → ⊥
 unfolding read readNews readMessages
 never-0 d =
-    never-checked (opening d ++ headerChecks d) _ refl
+    never-checked (headerChecks d) _ refl
     (never-either (getD d 0 0 is 2) _ _ (never-taken (messagesChecks d) _ refl) (never-taken (newsChecks d) _ refl))
 
 -- the extra bytes of a packet, by their number

@@ -13,7 +13,6 @@ use flat_packet::Read;
 use flat_packet::fitting::unfit;
 use memx::layout;
 use memx::reading::Memx;
-use wire::datagram::LIMIT;
 use wire::kinds::Sequence;
 use wire::kinds::SessionId;
 use wire::output::Written;
@@ -80,10 +79,10 @@ fn written(fields: Packet, extra: &[u8], body: &[u8], out: &mut [u8]) -> Written
         return memx_write::write_messages(session, number, count, extra, body, out);
     }
     if layout::MESSAGES < kind {
-        return unfit(LIMIT, header, body, refusal::UNKNOWN_TYPE);
+        return unfit(layout::LIMIT, header, body, refusal::UNKNOWN_TYPE);
     }
     if body.len() != 0 {
-        return unfit(LIMIT, header, body, bodiless(extra));
+        return unfit(layout::LIMIT, header, body, bodiless(extra));
     }
     if kind == layout::HEARTBEAT {
         memx_write::write_heartbeat(session, number, extra, out)

@@ -5,10 +5,9 @@ use mathlib.Core.Path.{_≡_, refl, sym, _∙_}
 use mathlib.Core.List.{List, []}
 use native.Mathlib.Omega.{arith}
 use lib.ListN.{length}
-use Rattle.wire.specs.Datagram.{limit}
 use Rattle.wire.specs.declared.kinds.SessionId.{SessionId}
 use Rattle.blocks.specs.Blocks.{frames}
-use Rattle.memx.specs.Packet.{Packet, heartbeat, shutdown, messages, write, FitExtra, Fit}
+use Rattle.memx.specs.Packet.{Packet, heartbeat, shutdown, messages, limit, write, FitExtra, Fit}
 use Rattle.memx.proofs.Header.{length-laid}
 use Rattle.record.specs.declared.Session.the-variants.{Memx}
 use Rattle.hearing.specs.Hearing.{ofMemx, hear}

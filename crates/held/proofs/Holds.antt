@@ -55,7 +55,7 @@ module _ (next : ℕ) (h : Holding) (m : ℕ) (message : List ℕ) where
       (λ e. rw e (lays (has-room e)))
       (λ e. rw e (keeps e))
 
-  -- a number past N+31 is thrown away, and so is one whose slot is full
+  -- a number past N+31 is thrown away, and so is one whose slot is full, and a message that no slot has room for
   pub past-thrown : next + 31 < m → holdOne next h m message ≡ h
   unfolding holdOne
   past-thrown l = rw (lt-leb m (next + 31) l, and-false (leb (next + 1) m))
@@ -63,6 +63,10 @@ module _ (next : ℕ) (h : Holding) (m : ℕ) (message : List ℕ) where
   pub full-kept : full (h .held) m ≡ true → holdOne next h m message ≡ h
   unfolding holdOne
   full-kept f = rw (f, and-false (leb (next + 1) m && leb m (next + 31)))
+
+  pub long-thrown : longest < length message → holdOne next h m message ≡ h
+  unfolding holdOne
+  long-thrown l = rw (lt-leb (length message) longest l, and-false (leb (next + 1) m && leb m (next + 31) && not (full (h .held) m)))
 
 -- what holding more keeps: the area's length, the full slots and their messages, and that the area fits
 pub record Keeps (h k : Holding) : Type 0 where

@@ -9,13 +9,12 @@ use borrow.Author.Tests.{le-leb, ne-eqb, leb-true, eqb-true}
 use lib.ListN.{length, drop, drop-of-length-le}
 use Rattle.wire.specs.Fields.{Bytes}
 use Rattle.wire.specs.Checks.{if_then_else_, _is_, taken, Passed}
-use Rattle.wire.specs.Datagram.{limit}
 use Rattle.wire.proofs.Tests.{nonzero}
 use Rattle.wire.proofs.Width.{be-lt, bytes-drop, bytes-take, written-again}
 use Rattle.blocks.specs.Blocks.{frames, messagesOf}
 use Rattle.blocks.proofs.Frames.{short-frames}
 use Rattle.blocks.proofs.Cutting.{cut-frames, frames-cut}
-use Rattle.memx.specs.Packet.{Packet, heartbeat, shutdown, messages, headerSize, headed, laid, write, FitExtra, FitNews, FitMessages, Fit}
+use Rattle.memx.specs.Packet.{Packet, heartbeat, shutdown, messages, limit, headerSize, headed, laid, write, FitExtra, FitNews, FitMessages, Fit}
 use Rattle.memx.specs.Read.{kindIn, headerIn, sessionIn, numberIn, extraIn, countIn, blocksAt, blocksIn, newsChecks, messagesChecks, news, read}
 use Rattle.blocks.proofs.Counting.{whole-is, count-frames}
 use Rattle.memx.proofs.Header.{length-laid, length-extra, header-again}

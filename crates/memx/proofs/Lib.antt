@@ -4,5 +4,6 @@ pub mod Taken
 pub mod Exact
 pub mod Carried
 pub mod Order
+pub mod Limits
 pub mod Specimen
 mod Settled

@@ -2,15 +2,14 @@
 -- Assumes nothing.
 use Prim.Native.Nat.{ℕ, _≤_}
 use mathlib.Core.Path.{_≡_}
-use mathlib.Core.List.{List, _++_}
+use mathlib.Core.List.{List}
 use native.Mathlib.Omega.{arith}
 use borrow.Author.Tests.{leb-true, eqb-true, eqb-false}
 use lib.ListN.{length}
 use Rattle.wire.specs.Checks.{_is_, taken, Passed}
-use Rattle.wire.specs.Datagram.{limit, opening}
 use Rattle.wire.proofs.Checks.{all-passed, chosen, taken-same}
 use Rattle.blocks.specs.Blocks.{messagesOf}
-use Rattle.memx.specs.Packet.{Packet, messages, headerSize}
+use Rattle.memx.specs.Packet.{Packet, messages, limit, headerSize}
 use Rattle.memx.specs.Read.{kindIn, headerIn, sessionIn, numberIn, extraIn, blocksIn, headerChecks, newsChecks, messagesChecks, news, readNews, readMessages, read}
 
 module _ (d : List ℕ) (p : Packet) where
@@ -28,7 +27,7 @@ module _ (d : List ℕ) (p : Packet) where
   unfolding read readNews readMessages
   took e =
       let k = kindIn d in
-      let r = all-passed (opening d ++ headerChecks d) _ p e in
+      let r = all-passed (headerChecks d) _ p e in
       let known : k ≤ 2 = leb-true k 2 (r .0 .1 .1 .0) in
       let m = taken (messages (sessionIn d) (numberIn d) (extraIn d) (messagesOf (blocksIn d))) in
       let n = taken (news k (sessionIn d) (numberIn d) (extraIn d)) in

@@ -9,11 +9,10 @@ use borrow.Author.Tests.{le-leb, eq-eqb, ne-eqb, eqb-true, eqb-false}
 use lib.ListN.{length, length-append}
 use Rattle.wire.specs.Fields.{bytesOf}
 use Rattle.wire.specs.Checks.{if_then_else_, _is_, _atMost_, taken, Check, _else_, checked}
-use Rattle.wire.specs.Datagram.{limit}
 use Rattle.wire.proofs.Tests.{by-test}
 use Rattle.wire.proofs.Width.{length-bytesOf}
 use Rattle.blocks.specs.Blocks.{cut, isWhole, messagesOf}
-use Rattle.memx.specs.Packet.{messages, headerSize, headed, laid}
+use Rattle.memx.specs.Packet.{messages, limit, headerSize, headed, laid}
 use Rattle.memx.specs.Read.{blocksAt, news, readNews, readMessages, read}
 use Rattle.memx.proofs.Header.{length-headed, kind-headed, header-headed, session-headed, number-headed, extra-headed, length-laid, count-laid, blocks-laid}
 

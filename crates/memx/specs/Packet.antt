@@ -4,7 +4,6 @@ use Prim.Native.Nat.{ℕ, _+_, _-_, _^_, _≤_, _<_}
 use mathlib.Core.List.{List, [], _∷_, _++_}
 use lib.ListN.{length}
 use Rattle.wire.specs.Fields.{bytesOf, Bytes}
-use Rattle.wire.specs.Datagram.{limit}
 use Rattle.blocks.specs.Blocks.{frames, Each}
 
 -- the highest number published, 0 if none; or messages, numbered from the first on. `extra` are the header's bytes past its own fields
@@ -12,6 +11,10 @@ pub data Packet : Type 0 where
   heartbeat : (session highest : ℕ) (extra : List ℕ) → Packet
   shutdown : (session highest : ℕ) (extra : List ℕ) → Packet
   messages : (session first : ℕ) (extra : List ℕ) (ms : List (List ℕ)) → Packet
+
+-- the most bytes that a packet may have: a frame of 9,000 less 28 for the headers around it
+abbrev pub limit : ℕ
+limit = 8972
 
 -- the bytes of the header's own fields
 abbrev pub headerSize : ℕ

@@ -1,14 +1,13 @@
 -- What the desk says to a MEMX-UDP packet: a list of checks that all types share, then one for each.
 -- Assumes nothing.
 use Prim.Native.Nat.{ℕ, _+_, _-_, _^_}
-use mathlib.Core.List.{List, [], _∷_, _++_}
+use mathlib.Core.List.{List, [], _∷_}
 use mathlib.Core.Bool.{not}
 use lib.ListN.{length, getD, take, drop}
 use Rattle.wire.specs.Fields.{be}
 use Rattle.wire.specs.Checks.{if_then_else_, _is_, _atMost_, Verdict, taken, Check, _else_, checked}
-use Rattle.wire.specs.Datagram.{opening}
 use Rattle.blocks.specs.Blocks.{Cut, cut, isWhole, messagesOf}
-use Rattle.memx.specs.Packet.{Packet, heartbeat, shutdown, messages, headerSize}
+use Rattle.memx.specs.Packet.{Packet, heartbeat, shutdown, messages, limit, headerSize}
 
 -- the header's fields: type 1, header length 1, session 8, number 8
 abbrev pub kindIn : List ℕ → ℕ
@@ -37,11 +36,13 @@ blocksAt d = headerIn d + 2
 abbrev pub blocksIn : List ℕ → Cut
 blocksIn d = cut (countIn d) (drop (blocksAt d) d)
 
--- of any type: it is known, the header's own fields are there, and the header's length covers them. It is a byte: over 255 stands only in what would be
--- written with too many extra bytes
+-- of any type: there are bytes and not too many, the type is known, the header's own fields are there, and the header's length covers them. It is a byte: over
+-- 255 stands only in what would be written with too many extra bytes
 abbrev pub headerChecks : List ℕ → List Check
 headerChecks d =
-    (kindIn d atMost 2 else 3)
+    (not (length d is 0) else 1)
+    ∷ (length d atMost limit else 2)
+    ∷ (kindIn d atMost 2 else 3)
     ∷ (headerSize atMost length d else 4)
     ∷ (headerSize atMost headerIn d else 5)
     ∷ (headerIn d atMost 255 else 5)
@@ -79,5 +80,5 @@ readMessages d =
 
 unfoldable pub read : List ℕ → Verdict Packet
 read d =
-    checked (opening d ++ headerChecks d)
+    checked (headerChecks d)
     (if kindIn d is 2 then readMessages d else readNews (kindIn d) d)

@@ -1,5 +1,7 @@
 // A packet's layout: its sizes, its places and its types.
 
+// The most bytes that a packet may have: a frame of 9,000 less 28 for the headers around it.
+pub const LIMIT: usize = 8972;
 // The bytes of the header's own fields: the least that it says of its length. Extra bytes stand behind them.
 pub const HEADER: usize = 18;
 // The most extra bytes: the header's length is one byte.

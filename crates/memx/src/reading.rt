@@ -6,7 +6,6 @@ ghost use Rattle.memx.specs.Packet.{headerSize};
 ghost use Rattle.memx.specs.Read.{headerIn, readNews, readMessages, read};
 ghost use Rattle.memx.specs.Reading.{memxOf};
 use crate::layout;
-use wire::datagram::LIMIT;
 use wire::fields;
 use wire::kinds::Sequence;
 use wire::kinds::SessionId;
@@ -103,7 +102,7 @@ pub fn read(d: &[u8]) -> Memx
     if d.len() == 0 {
         return Memx::Refused(refusal::EMPTY);
     }
-    if LIMIT < d.len() {
+    if layout::LIMIT < d.len() {
         return Memx::Refused(refusal::OVERLONG);
     }
     let kind = d[0];

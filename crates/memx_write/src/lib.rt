@@ -8,7 +8,6 @@ ghost use Rattle.wire.specs.Reply.{Settled};
 ghost use Rattle.memx.specs.Packet.{heartbeat, shutdown, headerSize, headed, laid};
 ghost use Rattle.memx_write.specs.Writing.{sent, reply};
 use memx::layout;
-use wire::datagram::LIMIT;
 use wire::fields;
 use wire::kinds::Sequence;
 use wire::kinds::SessionId;
@@ -59,7 +58,7 @@ fn write_news(
     ensures { λ r. ⌜ Settled (sent (headed kind (session .0) (highest .0) (now (extra .entry)) []) (length (now (out .entry)))) (now (out .entry)) r (now (out .exit)) ⌝ }
 {
     let header = layout::HEADER + extra.len();
-    if LIMIT < header {
+    if layout::LIMIT < header {
         return Written::Refused(refusal::OVERLONG);
     }
     if layout::MOST_EXTRA < extra.len() {
@@ -111,10 +110,10 @@ pub fn write_messages(
 {
     let more = extra.len();
     let place = layout::BLOCKS + more;
-    if LIMIT < place {
+    if layout::LIMIT < place {
         return Written::Refused(refusal::OVERLONG);
     }
-    if LIMIT - place < blocks.len() {
+    if layout::LIMIT - place < blocks.len() {
         return Written::Refused(refusal::OVERLONG);
     }
     if layout::MOST_EXTRA < more {

@@ -1,4 +1,4 @@
--- A datagram of either protocol: at least a byte, at most 1,472.
+-- A UFO datagram, whichever way it goes: at least a byte, at most 1,472.
 -- Assumes nothing.
 use Prim.Native.Nat.{ℕ}
 use mathlib.Core.List.{List, [], _∷_}

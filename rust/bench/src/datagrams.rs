@@ -1,7 +1,8 @@
 //! The replay of datagrams: each is read, then taken into a session record.
 
 use crate::desk::{Desk, Seen};
-use crate::tape::{messages, Sum, LIMIT, TURN};
+use crate::tape::{messages, Sum, TURN};
+use ordinary::memx;
 use std::hint::black_box;
 
 /// A protocol whose datagrams go into a session record.
@@ -10,6 +11,8 @@ pub trait Protocol {
     const HEADER: &'static [u8];
     /// Where the last four bytes of the number begin; a replay has no greater numbers.
     const NUMBER: usize;
+    /// Whether every datagram is as long as may be, and how long that is.
+    const FULL: Option<usize> = None;
     fn open<D: Desk>() -> D::Record;
     fn read<D: Desk>(datagram: &[u8]) -> Seen<'_>;
 }
@@ -46,6 +49,23 @@ impl Protocol for Memx {
     }
 }
 
+/// MEMX-UDP in jumbo frames, each of which is full.
+pub struct MemxJumbo;
+
+impl Protocol for MemxJumbo {
+    const HEADER: &'static [u8] = Memx::HEADER;
+    const NUMBER: usize = Memx::NUMBER;
+    const FULL: Option<usize> = Some(memx::LIMIT);
+
+    fn open<D: Desk>() -> D::Record {
+        Memx::open::<D>()
+    }
+
+    fn read<D: Desk>(datagram: &[u8]) -> Seen<'_> {
+        Memx::read::<D>(datagram)
+    }
+}
+
 /// In which order datagrams come.
 pub trait Order {
     /// Puts datagrams that stand in the order of their numbers into the order in which they come.
@@ -68,25 +88,43 @@ impl Order for SecondLate {
     }
 }
 
+/// Lengthens messages by their own bytes, each by one in turn, until their blocks have so many bytes.
+fn lengthen(messages: &mut [Vec<u8>], blocks: usize) {
+    let now: usize = messages.iter().map(|message| 2 + message.len()).sum();
+    let count = messages.len();
+    for place in 0..blocks - now {
+        let message = &mut messages[place % count];
+        message.push(message[place / count]);
+    }
+}
+
+/// The datagram of some messages, the number being 0.
+fn datagram<P: Protocol>(messages: &mut [Vec<u8>]) -> Vec<u8> {
+    if let Some(length) = P::FULL {
+        lengthen(messages, length - P::HEADER.len() - 2);
+    }
+    let mut bytes = [P::HEADER, &(messages.len() as u16).to_be_bytes()].concat();
+    for message in messages {
+        bytes.extend((message.len() as u16).to_be_bytes());
+        bytes.extend(&message[..]);
+    }
+    assert!(P::FULL.is_none_or(|length| bytes.len() == length));
+    bytes
+}
+
 /// The tape's messages, so many to a datagram, each with how many messages come before it.
 fn datagrams<P: Protocol>(count: usize) -> Vec<(u32, Vec<u8>)> {
-    let datagram = |messages: &[Vec<u8>]| {
-        let mut bytes = [P::HEADER, &(count as u16).to_be_bytes()].concat();
-        for message in messages {
-            bytes.extend((message.len() as u16).to_be_bytes());
-            bytes.extend(message);
-        }
-        bytes
-    };
     let before = (0..).step_by(count);
-    before.zip(messages().chunks(count).map(datagram)).collect()
+    let mut messages = messages();
+    let datagrams = messages.chunks_mut(count).map(datagram::<P>);
+    before.zip(datagrams).collect()
 }
 
 /// Replays so many messages, `COUNT` to a datagram, and gives the checksum.
 pub fn replay<P: Protocol, O: Order, D: Desk, const COUNT: usize>(messages: u64) -> u64 {
     let mut datagrams = datagrams::<P>(COUNT);
     O::arrange(&mut datagrams);
-    let (mut area, mut out) = (D::area(), [0; LIMIT]);
+    let (mut area, mut out) = (D::area(), [0; memx::LIMIT]);
     let mut record = P::open::<D>();
     let mut sum = Sum::default();
     let mut first = 1;

@@ -13,7 +13,7 @@ mod pieces;
 mod stream;
 mod tape;
 
-use datagrams::{InOrder, Memx, SecondLate, Ufo};
+use datagrams::{InOrder, Memx, MemxJumbo, SecondLate, Ufo};
 use desk::{Ordinary, Proved};
 use stream::{Soup, Tcp};
 
@@ -36,7 +36,7 @@ pub struct Replay {
 }
 
 /// Every replay there is.
-pub const REPLAYS: [Replay; 13] = [
+pub const REPLAYS: [Replay; 14] = [
     Replay {
         name: "ufo",
         about: "UFO datagrams of 50 messages, each read and then taken into a session record",
@@ -54,6 +54,12 @@ pub const REPLAYS: [Replay; 13] = [
         about: "MEMX-UDP datagrams of 50 messages, each read and then taken into a session record",
         proved: datagrams::replay::<Memx, InOrder, Proved, 50>,
         ordinary: datagrams::replay::<Memx, InOrder, Ordinary, 50>,
+    },
+    Replay {
+        name: "memx-jumbo",
+        about: "the same in full datagrams of 8,972 bytes, 400 messages to each",
+        proved: datagrams::replay::<MemxJumbo, InOrder, Proved, 400>,
+        ordinary: datagrams::replay::<MemxJumbo, InOrder, Ordinary, 400>,
     },
     Replay {
         name: "held",

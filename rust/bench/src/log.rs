@@ -4,7 +4,8 @@
 //! at most; then another is begun in the same bytes.
 
 use crate::desk::Desk;
-use crate::tape::{messages, Sum, LIMIT, TURN};
+use crate::tape::{messages, Sum, TURN};
+use ordinary::ufo;
 use std::hint::black_box;
 
 /// How many messages a log has at most.
@@ -16,7 +17,7 @@ const ASKED: u16 = 10;
 /// Replays so many messages and gives the checksum.
 pub fn replay<D: Desk>(count: u64) -> u64 {
     let tape = messages();
-    let (mut bytes, mut out) = ([0; 2 * LIMIT], [0; LIMIT]);
+    let (mut bytes, mut out) = ([0; 2 * ufo::LIMIT], [0; ufo::LIMIT]);
     let mut sum = Sum::default();
     for _ in 0..count / TURN {
         for messages in tape.chunks(MOST) {

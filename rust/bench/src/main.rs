@@ -67,9 +67,8 @@ fn main() -> ExitCode {
         println!("{:016x}", run(messages));
         return ExitCode::SUCCESS;
     }
-    println!(
-        "{messages} messages of 4 to 20 bytes, or logins; buffers not cleared; best of {ROUNDS}"
-    );
+    println!("{messages} messages of 4 to 20 bytes, of 12 to 29 in jumbo frames, or logins");
+    println!("buffers not cleared; best of {ROUNDS}");
     for each in &REPLAYS {
         if replay.is_none_or(|one| one.name == each.name) {
             compare(each, messages);

@@ -5,9 +5,6 @@ use std::hint::black_box;
 /// How many messages there are before they come again.
 pub const TURN: u64 = 800;
 
-/// The longest datagram.
-pub const LIMIT: usize = 1472;
-
 /// The message at a place of the tape: 4 to 20 bytes, none of them a linefeed.
 fn message(place: u64) -> Vec<u8> {
     let length = 4 + place * 7 % 17;

@@ -1,5 +1,6 @@
 //! One case given to both desks.
 
+use crate::limits::SLOT;
 use crate::smallest::smallest;
 use crate::twin::Twin;
 use hinurapay::flat::*;
@@ -86,7 +87,7 @@ impl Difference {
 /// Copies bytes, piece by piece: an emulator takes five times as long for a long copy in one.
 pub fn copied(parts: &[&[u8]]) -> Vec<u8> {
     let mut copy = Vec::with_capacity(parts.iter().map(|part| part.len()).sum());
-    for piece in parts.iter().flat_map(|part| part.chunks(1472)) {
+    for piece in parts.iter().flat_map(|part| part.chunks(SLOT)) {
         copy.extend_from_slice(piece);
     }
     copy

@@ -8,20 +8,12 @@ pub use record::{taken, ToTake};
 
 use crate::both::{blank, both, Agreed, Difference};
 use crate::dice::Dice;
+use crate::limits::{MEMX, SOUP, TCP, UFO};
 use crate::make;
 use crate::twin::Twin;
 use crate::Case;
 use hinurapay::flat::{hp_packet, hp_read, hp_tcp, hp_wrote};
 use ordinary::flat as plain;
-
-/// The longest UFO and MEMX-UDP packet.
-const DATAGRAM: usize = 1472;
-
-/// The longest Soup packet.
-const SOUP: usize = 4098;
-
-/// The longest MEMX-TCP packet.
-const TCP: usize = 65_538;
 
 /// More than any packet has beside its body.
 const FIXED: usize = 64;
@@ -107,21 +99,18 @@ fn soup_laid(fields: hp_packet, packet: &[u8]) -> Result<Agreed<hp_wrote>, Diffe
 fn ufo_read_down(dice: &mut Dice) -> Result<u64, Difference> {
     let number = make::number(dice);
     let mut packet = make::ufo_down(number, dice);
-    make::damage(&mut packet, DATAGRAM, dice);
+    make::damage(&mut packet, UFO, dice);
     both!(hp_ufo_read_down(bytes); lent bytes = &packet).map(Agreed::refusal)
 }
 
 fn ufo_read_up(dice: &mut Dice) -> Result<u64, Difference> {
     let (mut packet, _) = make::ufo_up(dice);
-    make::damage(&mut packet, DATAGRAM, dice);
+    make::damage(&mut packet, UFO, dice);
     both!(hp_ufo_read_up(bytes); lent bytes = &packet).map(Agreed::refusal)
 }
 
 fn memx_read(dice: &mut Dice) -> Result<u64, Difference> {
-    let (session, number) = (make::number(dice), make::number(dice));
-    let mut packet = make::memx(session, number, dice);
-    make::damage(&mut packet, DATAGRAM, dice);
-    memx_both_ways(&packet).map(|read| read.refusal)
+    memx_both_ways(&make::memx_to_read(dice)).map(|read| read.refusal)
 }
 
 /// Reads a MEMX-UDP packet by both desks; what they take they write again with the same bytes. Says
@@ -189,7 +178,7 @@ fn place(places: &[u64], length: usize, dice: &mut Dice) -> u64 {
 
 fn ufo_read_message(dice: &mut Dice) -> Result<u64, Difference> {
     let (mut packet, places) = make::ufo_up(dice);
-    make::damage(&mut packet, DATAGRAM, dice);
+    make::damage(&mut packet, UFO, dice);
     let place = place(&places, packet.len(), dice);
     both!(hp_ufo_read_message(bytes, place); lent bytes = &packet).map(Agreed::refusal)
 }
@@ -200,7 +189,11 @@ fn next_block(dice: &mut Dice) -> Result<u64, Difference> {
         places.push(bytes.len() as u64);
         bytes.extend(make::blocks(1, dice));
     }
-    make::damage(&mut bytes, DATAGRAM, dice);
+    if dice.one_in(20) {
+        places.push(bytes.len() as u64);
+        bytes.extend(make::long_blocks(MEMX, dice).1);
+    }
+    make::damage(&mut bytes, MEMX, dice);
     let place = place(&places, bytes.len(), dice);
     both!(hp_next_block(lent, place); lent lent = &bytes).map(Agreed::refusal)
 }
@@ -226,19 +219,19 @@ fn soup_write(dice: &mut Dice) -> Result<u64, Difference> {
 }
 
 fn ufo_write_down(dice: &mut Dice) -> Result<u64, Difference> {
-    let (fields, body) = make::to_write(b"ASSSJE", b"S", false, DATAGRAM, dice);
+    let (fields, body) = make::to_write(b"ASSSJE", b"S", false, UFO, dice);
     writing!(hp_ufo_write_down, fields, body, dice)
 }
 
 fn ufo_write_message(dice: &mut Dice) -> Result<u64, Difference> {
-    let (fields, body) = make::to_write(b"LTTURO", b"U", false, DATAGRAM, dice);
+    let (fields, body) = make::to_write(b"LTTURO", b"U", false, UFO, dice);
     writing!(hp_ufo_write_message, fields, body, dice)
 }
 
 fn ufo_add_message(dice: &mut Dice) -> Result<u64, Difference> {
-    let (fields, body) = make::to_write(b"LTTURO", b"U", false, DATAGRAM, dice);
-    let packet = make::ufo_begun(body.len(), DATAGRAM, dice);
-    let mut ample = [&packet[..], &[0; DATAGRAM]].concat();
+    let (fields, body) = make::to_write(b"LTTURO", b"U", false, UFO, dice);
+    let packet = make::ufo_begun(body.len(), UFO, dice);
+    let mut ample = [&packet[..], &[0; UFO]].concat();
     let used = packet.len() as u64;
     let needed = plain::hp_ufo_add_message(fields.twin(), &body, &mut ample, used).bytes;
     let mut out = room(needed.max(used), dice);
@@ -255,7 +248,7 @@ fn ufo_add_message(dice: &mut Dice) -> Result<u64, Difference> {
 }
 
 fn memx_write(dice: &mut Dice) -> Result<u64, Difference> {
-    let (fields, extra, body) = make::memx_to_write(DATAGRAM, dice);
+    let (fields, extra, body) = make::memx_to_write(dice);
     let mut ample = vec![0; extra.len() + body.len() + FIXED];
     let needed = plain::hp_memx_write(fields.twin(), &extra, &body, &mut ample).bytes;
     memx_laid(fields, &extra, &body, room(needed, dice)).map(Agreed::refusal)
@@ -333,7 +326,7 @@ fn log_add_many(dice: &mut Dice) -> Result<u64, Difference> {
     let (log, mut bytes) = make::log(dice);
     let mut many = make::many(dice);
     if dice.one_in(4) {
-        make::damage(&mut many, DATAGRAM, dice);
+        make::damage(&mut many, UFO, dice);
     }
     if !dice.one_in(3) {
         // the room that is needed, or a byte or two more or less
@@ -362,9 +355,9 @@ fn log_answer(dice: &mut Dice) -> Result<u64, Difference> {
         _ => 1 + dice.below(8) as u16,
     };
     let room = match dice.below(8) {
-        0 => make::near(DATAGRAM as u64, dice) as usize,
-        1 => dice.below(DATAGRAM),
-        _ => DATAGRAM,
+        0 => make::near(UFO as u64, dice) as usize,
+        1 => dice.below(UFO),
+        _ => UFO,
     };
     both!(hp_log_answer(log, tape, first, count, out); lent tape = &bytes; room out = blank(room))
         .map(Agreed::refusal)

@@ -5,6 +5,7 @@
 mod both;
 mod cases;
 pub mod dice;
+pub mod limits;
 pub mod make;
 pub mod plan;
 pub mod session;

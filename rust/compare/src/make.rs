@@ -2,6 +2,7 @@
 
 mod decimals;
 mod held;
+mod jumbo;
 mod kept;
 mod packets;
 mod pieces;
@@ -9,6 +10,7 @@ mod tcp;
 
 pub use decimals::*;
 pub use held::*;
+pub use jumbo::*;
 pub use kept::*;
 pub use packets::*;
 pub use pieces::*;

@@ -10,13 +10,34 @@ pub use ufo::Ufo;
 
 use crate::both::{Agreed, Answer, Difference};
 use crate::dice::Dice;
-use hinurapay::flat::{hp_record, hp_wrote};
+use hinurapay::flat::{hp_packet, hp_record, hp_wrote};
+use hinurapay::Blocks;
 use line::Line;
 use recorder::Recorder;
 use std::thread;
 
-/// The longest datagram.
-const DATAGRAM: usize = 1472;
+/// What a datagram tells.
+pub struct Heard {
+    /// The number of its first message.
+    first: u64,
+    /// How long its messages are.
+    lengths: Vec<usize>,
+    /// The highest number that it tells of.
+    top: u64,
+}
+
+impl Heard {
+    /// What a datagram tells that was read as this packet, and of this number as the highest.
+    fn of(datagram: &[u8], packet: &hp_packet, top: u64) -> Heard {
+        let blocks = &datagram[packet.start as usize..][..packet.length as usize];
+        let lengths = Blocks::over(blocks).map(|block| block.expect("a whole block").len());
+        Heard {
+            first: packet.number,
+            lengths: lengths.collect(),
+            top,
+        }
+    }
+}
 
 /// The sending end of a session.
 pub trait Sender {
@@ -24,8 +45,8 @@ pub trait Sender {
     fn new(messages: usize) -> Self;
     /// A fresh record of its session.
     fn open() -> hp_record;
-    /// Reads one of its datagrams, which no reader may refuse; the highest number that it tells of.
-    fn read(datagram: &[u8]) -> u64;
+    /// Reads one of its datagrams, which no reader may refuse.
+    fn read(datagram: &[u8]) -> Heard;
     /// One more datagram: the next messages, the end, or a heartbeat.
     fn send(&mut self, dice: &mut Dice) -> Vec<u8>;
     /// A request for so many messages from that number on, as it goes over the line.
@@ -57,6 +78,8 @@ pub struct Outcome {
     pub requests: u64,
     /// How many messages it held, and how many at most at one time.
     pub held: (u64, u64),
+    /// How many messages came early and were too long to be held.
+    pub too_long: u64,
     /// How many ranges were missing at most at one time.
     pub ranges: usize,
     /// How many numbers at most were published and not delivered.
@@ -71,8 +94,8 @@ pub struct Outcome {
 
 /// Plays a session on these terms, until the record is complete or the rounds are over. Panics if the
 /// two desks differ in any answer, record or byte, if either end refuses what it should take, if
-/// anything but the log's beginning is delivered, or if what the record holds and lacks, at the end
-/// and now and then before, is not as it tells.
+/// anything but the log's beginning is delivered, or if the record, at the end and now and then before,
+/// holds anything but what must be held, or lacks anything but what it tells.
 pub fn play<S: Sender>(seed: u64, terms: Terms) -> Outcome {
     let _telling = Telling(seed);
     let mut dice = Dice::seeded(seed, terms.messages as u64, terms.loss as u64);
@@ -80,7 +103,6 @@ pub fn play<S: Sender>(seed: u64, terms: Terms) -> Outcome {
     let mut up = Line::new(terms.loss, 0);
     let mut sender = S::new(terms.messages);
     let mut recorder = Recorder::opened(S::open());
-    let mut top = 0;
     for round in 0..terms.rounds {
         down.send(sender.send(&mut dice), &mut dice);
         while let Some(request) = up.receive(&mut dice) {
@@ -89,13 +111,12 @@ pub fn play<S: Sender>(seed: u64, terms: Terms) -> Outcome {
             }
         }
         while let Some(datagram) = down.receive(&mut dice) {
-            top = top.max(S::read(&datagram));
-            recorder.take(&datagram);
+            recorder.take(&datagram, &S::read(&datagram));
             let due = sender.log().get(..recorder.tape.len());
             assert_eq!(due, Some(&recorder.tape[..]), "what is delivered was sent");
         }
         if round % 10 == 0 {
-            recorder.check(sender.log(), top);
+            recorder.check(sender.log());
         }
         if recorder.complete() {
             break;
@@ -104,11 +125,12 @@ pub fn play<S: Sender>(seed: u64, terms: Terms) -> Outcome {
             up.send(S::request(first, count), &mut dice);
         }
     }
-    recorder.check(sender.log(), top);
+    recorder.check(sender.log());
     Outcome {
         taken: recorder.taken,
         requests: recorder.requests,
         held: recorder.held,
+        too_long: recorder.too_long,
         ranges: recorder.ranges,
         behind: recorder.behind,
         complete: recorder.complete(),

@@ -1,12 +1,13 @@
 //! What is to come up is among the cases on which the two desks agree.
 
-use compare::make::{self, AREA};
+use compare::limits::{AREA, MEMX, SLOT, TCP};
+use compare::make;
 use compare::plan::cases_of;
 use compare::twin::Twin;
 use compare::ToTake;
 use ordinary::flat::{
     hp_memx_read, hp_memx_write, hp_missing_range, hp_packet, hp_record, hp_standing_of, hp_take,
-    hp_tcp_read, hp_tcp_write, hp_ufo_read_down,
+    hp_taken, hp_tcp_read, hp_tcp_write, hp_ufo_read_down,
 };
 use std::collections::BTreeSet;
 
@@ -15,7 +16,7 @@ fn every_type_of_memx_tcp_is_among_the_cases() {
     let (mut read, mut written) = (BTreeSet::new(), BTreeSet::new());
     for mut dice in cases_of("hp_tcp_read") {
         let mut packet = make::tcp(&mut dice);
-        make::damage(&mut packet, 65_538, &mut dice);
+        make::damage(&mut packet, TCP, &mut dice);
         let reading = hp_tcp_read(&packet);
         if reading.refusal == 0 {
             read.insert(reading.packet.r#type);
@@ -49,17 +50,15 @@ fn of_every_length(headers: &[(u8, usize)], types: &[u8]) {
 fn longer_memx_headers_are_among_the_cases() {
     let (mut read, mut written, mut delivered) = (Vec::new(), Vec::new(), Vec::new());
     for mut dice in cases_of("hp_memx_read") {
-        let (session, number) = (make::number(&mut dice), make::number(&mut dice));
-        let mut packet = make::memx(session, number, &mut dice);
-        make::damage(&mut packet, 1472, &mut dice);
+        let packet = make::memx_to_read(&mut dice);
         let reading = hp_memx_read(&packet);
         if reading.refusal == 0 {
             read.push((packet[0], usize::from(reading.packet.extra)));
         }
     }
     for mut dice in cases_of("hp_memx_write") {
-        let (fields, extra, body) = make::memx_to_write(1472, &mut dice);
-        let wrote = hp_memx_write(fields.twin(), &extra, &body, &mut [0; 1472]);
+        let (fields, extra, body) = make::memx_to_write(&mut dice);
+        let wrote = hp_memx_write(fields.twin(), &extra, &body, &mut [0; MEMX]);
         if wrote.refusal == 0 {
             written.push((fields.r#type, extra.len()));
         }
@@ -83,7 +82,7 @@ fn far_held(record: &hp_record) -> Vec<u64> {
 
 /// What alone is wrong with the full slots or the area of a record that is refused as 10.
 fn wrong(record: &hp_record, area: &[u8]) -> Option<&'static str> {
-    let (far, mut slots) = (far_held(record), area.chunks(1472).enumerate());
+    let (far, mut slots) = (far_held(record), area.chunks(SLOT).enumerate());
     let overlong =
         |(slot, bytes): (usize, &[u8])| record.held >> slot & 1 == 1 && bytes[..2] > [5, 190][..];
     let all = [
@@ -105,17 +104,18 @@ fn wrong(record: &hp_record, area: &[u8]) -> Option<&'static str> {
     first.filter(|_| second.is_none()).map(|&(_, what)| what)
 }
 
-/// What happens to early messages where this packet is taken, so many messages being delivered.
-fn happens(record: &hp_record, packet: &hp_packet, messages: u64) -> Vec<&'static str> {
+/// What happens to early messages where this packet is taken.
+fn happens(record: &hp_record, packet: &hp_packet, taken: &hp_taken) -> Vec<&'static str> {
     let last = packet.number.wrapping_add(packet.count.into()) - 1;
     let far_held = far_held(record);
     let among = |far: u64| (packet.number..=last).contains(&record.next.wrapping_add(far));
     let own = last.wrapping_sub(record.next).wrapping_add(1);
+    let messages = taken.messages;
     let all = if messages == 0 {
         let early = packet.number > record.next;
-        let free = |far: u64| !far_held.contains(&far) && among(far);
+        let held = taken.record.held & !record.held;
         [
-            (early && (1..32).any(free), "held"),
+            (held != 0, "held"),
             (early && far_held.iter().any(|&far| among(far)), "kept"),
             (early && last - record.next > 31, "too early"),
         ]
@@ -160,7 +160,7 @@ fn seen(mut case: ToTake) -> Vec<&'static str> {
     if ample.refusal != 0 || read.packet.count == 0 {
         return vec![];
     }
-    let mut seen = happens(&record, &read.packet, ample.messages);
+    let mut seen = happens(&record, &read.packet, &ample);
     let room_for_own = case.out.len() as u64 >= read.packet.length;
     if seen.contains(&"released") && room_for_own {
         let taken = hp_take(record, &mut case.area, &case.datagram, &mut case.out);

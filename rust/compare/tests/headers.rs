@@ -1,7 +1,7 @@
 //! MEMX-UDP headers of every length, read, taken and written: the two desks agree, and on what the
 //! paper says, which is worked out here apart from both.
 
-use compare::make::AREA;
+use compare::limits::{AREA, MEMX, SLOT};
 use compare::twin::Twin;
 use compare::{memx_both_ways, memx_written, taken, Difference};
 use hinurapay::flat::{hp_packet, hp_read, hp_record, hp_take, hp_taken, hp_wrote};
@@ -42,7 +42,7 @@ fn ruled(datagram: &[u8]) -> u64 {
     if length == 0 {
         return 1;
     }
-    if length > 1472 {
+    if length > MEMX {
         return 2;
     }
     if datagram[0] > 2 {
@@ -145,10 +145,12 @@ fn behind(r#type: u8, room: usize) -> Vec<Vec<u8>> {
     all
 }
 
-/// Lengths of datagrams for a header length: near it, near the least one, and near the limit.
+/// Lengths of datagrams for a header length: near it, near the least one, near the limit, and near
+/// UFO's.
 fn lengths(header: usize) -> BTreeSet<usize> {
     let near = header.saturating_sub(3)..=header + 8;
-    near.chain(15..=26).chain(1470..=1474).collect()
+    let near = near.chain(15..=26).chain(1471..=1474);
+    near.chain(MEMX - 2..=MEMX + 4).collect()
 }
 
 /// Every datagram of a type with a header length.
@@ -262,7 +264,7 @@ fn held_from(first: u64) -> (u32, Vec<u8>) {
     let (mut full, mut area) = (0, untouched());
     for (number, block) in (first..).zip(MESSAGES) {
         full |= 1 << number;
-        area[number as usize * 1472..][..block.len()].copy_from_slice(block);
+        area[number as usize * SLOT..][..block.len()].copy_from_slice(block);
     }
     (full, area)
 }
@@ -308,12 +310,12 @@ fn every_header_length_is_skipped_by_the_record() {
 /// How many extra bytes are tried in writing: as many as may be and more, and some up to more than
 /// any packet has.
 fn extras() -> impl Iterator<Item = usize> {
-    let some = (301..1440).step_by(67);
-    (0..=300).chain(some).chain(1440..=1473)
+    let some = (301..MEMX - 32).step_by(67);
+    (0..=300).chain(some).chain(MEMX - 32..=MEMX + 1)
 }
 
 /// Counts and bodies to be written behind so many extra bytes: none, short ones, and one block that
-/// brings the packet near its limit.
+/// brings the packet near its limit or near UFO's.
 fn bodies(extras: usize) -> Vec<(u16, Vec<u8>)> {
     let mut all = vec![
         (0, vec![]),
@@ -325,7 +327,8 @@ fn bodies(extras: usize) -> Vec<(u16, Vec<u8>)> {
         (1, b"!".to_vec()),
     ];
     // beside extra bytes and body a packet has 18 bytes, or with a count 20
-    let lengths = (1470..=1476_usize).filter_map(|whole| whole.checked_sub(22 + extras));
+    let lengths = (1471..=1474).chain(MEMX - 2..=MEMX + 4);
+    let lengths = lengths.filter_map(|whole: usize| whole.checked_sub(22 + extras));
     all.extend(lengths.map(|length| (1, block(length))));
     all
 }
@@ -340,7 +343,7 @@ fn ruled_in_writing(fields: &hp_packet, extra: &[u8], body: &[u8]) -> (u64, Vec<
     let behind = [&count, body].concat();
     let length = 18 + extra.len();
     let packet = laid(fields.r#type, length as u8, fields.number, extra, &behind);
-    let refusal = if length + behind.len() > 1472 {
+    let refusal = if length + behind.len() > MEMX {
         2
     } else if fields.r#type > 2 {
         3

@@ -2,12 +2,17 @@
 
 use compare::session::{play, Memx, Sender, Terms, Ufo};
 
-/// A publisher whose headers are as short as may be, and some of a later edition.
-type Memx18 = Memx<0>;
-type Memx19 = Memx<1>;
-type Memx20 = Memx<2>;
-type Memx48 = Memx<30>;
-type Memx255 = Memx<237>;
+/// A publisher whose headers are as short as may be, and some of a later edition; no datagram has more
+/// than 1,472 bytes.
+type Memx18 = Memx<0, 600, 2>;
+type Memx19 = Memx<1, 600, 2>;
+type Memx20 = Memx<2, 600, 2>;
+type Memx48 = Memx<30, 600, 2>;
+type Memx255 = Memx<237, 600, 2>;
+
+/// Publishers of jumbo frames, the longest message being as long as fits one.
+type Jumbo = Memx<0, 8950, 6>;
+type Jumbo255 = Memx<237, 8713, 6>;
 
 /// A short session over a line that reorders a little.
 const SHORT: Terms = Terms {
@@ -33,6 +38,8 @@ struct Seen {
     held: u64,
     /// How many at most at one time.
     most_held: u64,
+    /// How many came early and were too long to be held.
+    too_long: u64,
     /// How many ranges were missing at most at one time.
     ranges: usize,
     /// How far the record was behind at most.
@@ -48,6 +55,7 @@ fn delivers_the_whole_log<S: Sender>(seeds: u64, terms: Terms) -> Seen {
         seen.requests += outcome.requests;
         seen.held += outcome.held.0;
         seen.most_held = seen.most_held.max(outcome.held.1);
+        seen.too_long += outcome.too_long;
         seen.ranges = seen.ranges.max(outcome.ranges);
         seen.behind = seen.behind.max(outcome.behind);
     }
@@ -74,23 +82,45 @@ fn a_lossy_memx_line_of_longer_headers_delivers_the_whole_log() {
     assert!(delivers_the_whole_log::<Memx255>(25, SHORT).requests > 25);
 }
 
+#[test]
+fn a_lossy_line_of_jumbo_frames_delivers_the_whole_log() {
+    for seen in [
+        delivers_the_whole_log::<Jumbo>(50, SHORT),
+        delivers_the_whole_log::<Jumbo255>(50, SHORT),
+    ] {
+        assert!(seen.requests > 50 && seen.held > 50);
+        assert!(seen.too_long > 50, "{} too long", seen.too_long);
+    }
+}
+
 /// In long sessions the slots go round many times, come to be nearly all full, and are not enough.
-fn holds_much<S: Sender>() {
-    let seen = delivers_the_whole_log::<S>(8, LONG);
+fn holds_much<S: Sender>(seeds: u64, terms: Terms) -> Seen {
+    let seen = delivers_the_whole_log::<S>(seeds, terms);
     assert!(seen.held > 1000, "{} held", seen.held);
     assert!(seen.most_held > 20, "{} held at most", seen.most_held);
     assert!(seen.ranges > 5, "{} ranges at most", seen.ranges);
     assert!(seen.behind > 40, "{} behind at most", seen.behind);
+    seen
 }
 
 #[test]
 fn a_long_ufo_session_holds_much_and_delivers_the_whole_log() {
-    holds_much::<Ufo>();
+    holds_much::<Ufo>(8, LONG);
 }
 
 #[test]
 fn a_long_memx_session_holds_much_and_delivers_the_whole_log() {
-    holds_much::<Memx18>();
+    holds_much::<Memx18>(8, LONG);
+}
+
+#[test]
+fn a_long_session_of_jumbo_frames_holds_much_and_delivers_the_whole_log() {
+    let terms = Terms {
+        delay: 4,
+        loss: 100,
+        ..LONG
+    };
+    assert!(holds_much::<Jumbo>(24, terms).too_long > 300);
 }
 
 #[test]
@@ -99,6 +129,7 @@ fn a_line_that_loses_nothing_delivers_the_whole_log() {
     delivers_the_whole_log::<Ufo>(30, terms);
     delivers_the_whole_log::<Memx18>(30, terms);
     delivers_the_whole_log::<Memx48>(30, terms);
+    delivers_the_whole_log::<Jumbo>(30, terms);
 }
 
 fn delivers_nothing<S: Sender>() {
@@ -143,4 +174,5 @@ fn a_session_that_breaks_off_has_a_beginning_of_the_log() {
     a_beginning_of_the_log::<Ufo>();
     a_beginning_of_the_log::<Memx18>();
     a_beginning_of_the_log::<Memx48>();
+    a_beginning_of_the_log::<Jumbo>();
 }

@@ -1,6 +1,7 @@
 //! The typed face: whatever it reads it writes again as it was, and it refuses what the flat face refuses.
 
 use compare::dice::Dice;
+use compare::limits::{MEMX, SOUP, TCP, UFO};
 use compare::make;
 use hinurapay::memx_tcp::{self, LoginReject, Mode, Packet, ReplayReject, StreamReject};
 use hinurapay::{flat, memx, soup, ufo, Area, Record, Refusal, Sequence, SessionId};
@@ -35,7 +36,7 @@ fn round_trips(
 fn soup_packets_come_back() {
     round_trips(
         make::soup,
-        4098,
+        SOUP,
         |packet, out| soup::write(&soup::read(packet)?, out),
         |packet| flat::hp_soup_read(packet).refusal,
     );
@@ -45,7 +46,7 @@ fn soup_packets_come_back() {
 fn ufo_packets_from_the_server_come_back() {
     round_trips(
         |dice| make::ufo_down(make::number(dice), dice),
-        1472,
+        UFO,
         |packet, out| ufo::write_down(&ufo::read_down(packet)?, out),
         |packet| flat::hp_ufo_read_down(packet).refusal,
     );
@@ -55,7 +56,7 @@ fn ufo_packets_from_the_server_come_back() {
 fn ufo_packets_from_the_client_come_back() {
     round_trips(
         |dice| make::ufo_up(dice).0,
-        1472,
+        UFO,
         |packet, out| {
             let mut length = 0;
             for message in ufo::read_up(packet)? {
@@ -71,7 +72,7 @@ fn ufo_packets_from_the_client_come_back() {
 fn ufo_packets_from_the_client_are_put_together_again() {
     round_trips(
         |dice| make::ufo_up(dice).0,
-        1472,
+        UFO,
         |packet, out| {
             let mut upstream = ufo::Upstream::over(out);
             for message in ufo::read_up(packet)? {
@@ -87,7 +88,7 @@ fn ufo_packets_from_the_client_are_put_together_again() {
 fn memx_packets_come_back() {
     round_trips(
         |dice| make::memx(make::number(dice), make::number(dice), dice),
-        1472,
+        MEMX,
         |packet, out| memx::write(&memx::read(packet)?, out),
         |packet| flat::hp_memx_read(packet).refusal,
     );
@@ -159,14 +160,14 @@ fn a_memx_header_has_237_extra_bytes_at_most() {
         extra,
     };
     assert_eq!(memx::MOST_EXTRA, 237);
-    let extra = [0xff; 1455];
-    let mut out = [0; 1500];
+    let extra = [0xff; MEMX];
+    let mut out = [0; MEMX];
     assert_eq!(memx::write(&heartbeat(&extra[..237]), &mut out), Ok(255));
     assert_eq!(memx::read(&out[..255]), Ok(heartbeat(&extra[..237])));
     for (extras, refusal) in [
         (238, Refusal::Form),
-        (1454, Refusal::Form),
-        (1455, Refusal::Oversize),
+        (MEMX - 18, Refusal::Form),
+        (MEMX - 17, Refusal::Oversize),
     ] {
         let wrote = memx::write(&heartbeat(&extra[..extras]), &mut out);
         assert_eq!(wrote, Err(refusal), "{extras}");
@@ -177,7 +178,7 @@ fn a_memx_header_has_237_extra_bytes_at_most() {
 fn memx_tcp_packets_come_back() {
     round_trips(
         make::tcp,
-        65_538,
+        TCP,
         |packet, out| memx_tcp::write(&memx_tcp::read(packet)?, out),
         |packet| flat::hp_tcp_read(packet).refusal,
     );

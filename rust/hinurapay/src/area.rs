@@ -3,7 +3,10 @@
 use core::fmt;
 
 /// An area of 32 slots of 1,472 bytes, lent to a record with every datagram. The record notes which
-/// slots are full; so it is to be lent the same area each time, as it was left.
+/// slots are full; so it is to be lent the same area each time, as it was left. A message of more than
+/// [`Area::LONGEST`] bytes, which only MEMX-UDP brings, is not held; see [`Record::take`].
+///
+/// [`Record::take`]: crate::Record::take
 ///
 /// ```
 /// use hinurapay::{Area, Name, Record};
@@ -36,6 +39,12 @@ impl Area {
 
     /// How many bytes it has.
     pub const BYTES: usize = Area::SLOTS * Area::SLOT;
+
+    /// The longest message that is held: two bytes of its slot are its length.
+    pub const LONGEST: usize = Area::SLOT - 2;
+
+    /// How many bytes all held messages have together at most: the next one's own slot is never full.
+    pub const MOST_HELD: usize = (Area::SLOTS - 1) * Area::SLOT;
 
     /// An area for a fresh record.
     pub const fn new() -> Area {

@@ -1,12 +1,16 @@
 //! MEMX-UDP packets.
 
+use crate::area::Area;
 use crate::blocks::part;
 use crate::flat::{hp_memx_read, hp_memx_write, hp_packet};
 use crate::kinds::{Sequence, SessionId};
 use crate::refusal::{taken, written, Refusal};
 
-/// The longest packet.
-pub const LIMIT: usize = 1472;
+/// The longest packet: a frame of 9,000 bytes less 28 for the headers around it.
+pub const LIMIT: usize = 8972;
+
+/// Output enough for whatever one packet can deliver: its own messages and all that are held.
+pub const ROOM: usize = LIMIT + Area::MOST_HELD;
 
 /// The most extra bytes that a header has: its length byte says 255 at most, and 18 are its own.
 pub const MOST_EXTRA: usize = 237;

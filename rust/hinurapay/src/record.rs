@@ -4,6 +4,7 @@ use crate::area::Area;
 use crate::clock::{Patience, Sheet};
 use crate::flat::{hp_ask, hp_open_memx, hp_open_ufo, hp_record, hp_standing_of, hp_take};
 use crate::kinds::{Name, Sequence, SessionId};
+use crate::memx;
 use crate::missing::Missing;
 use crate::refusal::{taken, Refusal};
 
@@ -66,8 +67,9 @@ pub enum Asked {
 }
 
 impl Record {
-    /// Output enough for whatever one datagram can deliver: its own messages and all that are held.
-    pub const ROOM: usize = 1472 + (Area::SLOTS - 1) * Area::SLOT;
+    /// Output enough for whatever one datagram can deliver to a record of either style;
+    /// [`ufo::ROOM`](crate::ufo::ROOM) is less, and enough for UFO.
+    pub const ROOM: usize = memx::ROOM;
 
     /// A fresh record of a UFO session; 5 or 6 for a name that could not stand in `A`.
     pub fn open_ufo(name: Name) -> Result<Record, Refusal> {
@@ -127,9 +129,35 @@ impl Record {
     }
 
     /// Takes a datagram: delivers the blocks that are next into the output, and behind them those that
-    /// were held for it, and holds early ones in the area. Refused: 10 for an area that can't be the
-    /// record's own, then the reader's refusals, 16, 11, 12, 9. [`Record::ROOM`] bytes of output are
-    /// never too few.
+    /// were held for it, and holds early ones in the area. An early message of over [`Area::LONGEST`]
+    /// bytes is not held: it is known of and missing, and delivered when it comes again and is next.
+    /// Refused: 10 for an area that can't be the record's own, then the reader's refusals, 16, 11, 12, 9.
+    /// [`Record::ROOM`] bytes of output are never too few.
+    ///
+    /// ```
+    /// use hinurapay::memx::{write, Packet};
+    /// use hinurapay::{Area, Record, Sequence, SessionId};
+    ///
+    /// let session = SessionId(7);
+    /// let mut record = Record::open_memx(session);
+    /// let (mut area, mut out) = (Area::new(), [0; Record::ROOM]);
+    /// let (mut first, mut second) = ([0; 22], [0; 1493]);
+    /// let packet = |first, blocks| Packet::Sequenced { session, first, count: 1, extra: b"", blocks };
+    /// write(&packet(Sequence(1), b"\0\0"), &mut first)?; // message 1 is empty
+    /// let mut long = [b'x'; 2 + 1471]; // and message 2 has 1,471 bytes
+    /// long[..2].copy_from_slice(&1471_u16.to_be_bytes());
+    /// write(&packet(Sequence(2), &long), &mut second)?;
+    ///
+    /// // message 2 comes early, is too long for a slot, and is missing still
+    /// record.take(&mut area, &second, &mut out)?;
+    /// assert_eq!((record.top(), record.held()), (Sequence(2), 0));
+    /// assert!(record.missing().eq([(Sequence(1), Sequence(2))]));
+    /// // after message 1 it is the next, and when it comes again it is delivered
+    /// record.take(&mut area, &first, &mut out)?;
+    /// assert_eq!(record.take(&mut area, &second, &mut out)?.blocks, long);
+    /// assert_eq!(record.next(), Sequence(3));
+    /// # Ok::<(), hinurapay::Refusal>(())
+    /// ```
     #[inline]
     pub fn take<'a>(
         &mut self,

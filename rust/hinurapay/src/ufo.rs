@@ -1,5 +1,6 @@
 //! UFO packets, from the server (down) and from the client (up).
 
+use crate::area::Area;
 use crate::blocks::part;
 use crate::flat::{
     hp_next_block, hp_packet, hp_ufo_add_message, hp_ufo_read_down, hp_ufo_read_message,
@@ -10,6 +11,9 @@ use crate::refusal::{taken, written, Refusal};
 
 /// The longest packet.
 pub const LIMIT: usize = 1472;
+
+/// Output enough for whatever one packet can deliver: its own messages and all that are held.
+pub const ROOM: usize = LIMIT + Area::MOST_HELD;
 
 /// A packet from the server; blocks are a slice of the caller's bytes.
 #[derive(Clone, Copy, Debug, PartialEq, Eq)]
@@ -236,7 +240,7 @@ impl<'a> Upstream<'a> {
     }
 
     /// Adds a message behind the others; refused as a reader would refuse the whole packet, so that
-    /// over 1,472 bytes in all are 2; then 9.
+    /// over [`LIMIT`] bytes in all are 2; then 9.
     pub fn add(&mut self, message: &Up<'_>) -> Result<(), Refusal> {
         let (fields, data) = flat(message);
         let wrote = hp_ufo_add_message(fields, data, self.bytes, self.used as u64);

@@ -15,6 +15,9 @@ pub const AREA: usize = SLOTS * SLOT;
 /// How many bytes of data the longest held message has: a slot's, but for the two of its length.
 pub const LONGEST: usize = SLOT - 2;
 
+/// How many bytes all held messages have together at most: the next one's own slot is never full.
+pub const MOST: usize = (SLOTS - 1) * SLOT;
+
 /// Which slots are full: bit i is 1 where slot i is. Message m has slot m mod 32, and with `next`
 /// the next message to be delivered the slots stand for `next` to `next + 31`.
 #[derive(Clone, Copy, Debug, Default, PartialEq, Eq)]
@@ -125,33 +128,4 @@ fn slot(number: u64) -> usize {
 #[inline]
 fn turn(next: u64) -> u32 {
     slot(next) as u32
-}
-
-#[cfg(test)]
-mod tests {
-    use super::*;
-
-    #[test]
-    fn a_message_as_long_as_a_slot_is_held_and_a_longer_one_is_not() {
-        for (length, held) in [(LONGEST, Held(1 << 6)), (LONGEST + 1, Held(0))] {
-            let message = [&(length as u16).to_be_bytes()[..], &vec![7; length]].concat();
-            let (mut slots, mut area) = (Held(0), vec![0xdd; AREA]);
-            slots.hold(&mut area, 5, 6, &message);
-            assert_eq!(slots, held, "{length}");
-            let mut expected = vec![0xdd; AREA];
-            if held.0 != 0 {
-                expected[6 * SLOT..7 * SLOT].copy_from_slice(&message);
-            }
-            assert!(area == expected, "{length}");
-        }
-    }
-
-    #[test]
-    fn the_messages_behind_one_that_is_too_long_are_held() {
-        let long = [&u16::to_be_bytes(2000)[..], &[7; 2000]].concat();
-        let (mut slots, mut area) = (Held(0), vec![0; AREA]);
-        slots.hold(&mut area, 30, 31, &[&long[..], b"\0\x02HI"].concat());
-        assert_eq!(slots, Held(1));
-        assert_eq!(block(&area, 0), Ok(&b"\0\x02HI"[..]));
-    }
 }

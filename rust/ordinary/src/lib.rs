@@ -45,7 +45,7 @@
 //! - An area may be longer than 32 slots: what stands behind them is not looked at, and stays.
 //! - A held message is kept though the number comes again with other bytes; where it comes again in
 //!   a packet that delivers, the packet's own bytes go out and the slot falls free.
-//! - Freed slots keep their bytes, and an early message of over 1,470 bytes is thrown away.
+//! - Freed slots keep their bytes.
 //! - Minus zero lies between 0 and any bound. The wait of 1000 while nothing was timed is held
 //!   between floor and ceiling too.
 //! - Asking refuses a rule or an elapsed time out of range (15) even if nothing is missing.

@@ -2,11 +2,15 @@
 
 use crate::blocks;
 use crate::fields::{end, lay, measured, take};
+use crate::held;
 use crate::kinds::{Sequence, SessionId};
 use crate::refusal::Refusal;
 
-/// The most bytes that a packet may have.
-pub const LIMIT: usize = 1472;
+/// The most bytes that a packet may have: a frame of 9,000 less 28 for the headers around it.
+pub const LIMIT: usize = 8972;
+
+/// Output enough for a packet's messages and all that are held.
+pub const ROOM: usize = LIMIT + held::MOST;
 
 /// How many bytes the header has at least: those of its own fields, which every type shares.
 pub const HEADER: usize = 18;

@@ -132,8 +132,9 @@ impl Record {
     }
 
     /// Takes a datagram: what is next goes onto the tape, from its start, as blocks with their
-    /// length bytes, and what was held behind it follows; what comes early is held in the area. 10;
-    /// the reader's refusals; 16; 11; 12; 9.
+    /// length bytes, and what was held behind it follows; what comes early is held in the area,
+    /// unless its block is longer than a slot. 10; the reader's refusals; 16; 11; 12; 9. A tape of
+    /// [`ufo::ROOM`] bytes, or in MEMX-UDP of [`memx::ROOM`], is never too short.
     #[inline]
     pub fn take(
         mut self,

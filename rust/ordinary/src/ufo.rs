@@ -6,10 +6,14 @@ mod up;
 pub use down::{read_down, write_down, Down, DATA_HEADER};
 pub use up::{read_message, read_up, write_message, Packet, Up};
 
+use crate::held;
 use crate::refusal::Refusal;
 
 /// The most bytes that a packet may have.
 pub const LIMIT: usize = 1472;
+
+/// Output enough for a packet's messages and all that are held.
+pub const ROOM: usize = LIMIT + held::MOST;
 
 /// The highest number that a message, or a session's total, may have.
 pub const HIGHEST: u64 = u32::MAX as u64 - 1;

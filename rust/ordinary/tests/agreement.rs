@@ -2,9 +2,9 @@
 
 mod common;
 
-use common::{blocks, extended, memx, memx_data, soup_a, soup_l, ufo_e, ufo_s, Dice};
+use common::{blocks, extended, memx, memx_data, soup_a, soup_l, take_with, ufo_e, ufo_s, Dice};
 use ordinary::flat::*;
-use ordinary::kinds::Name;
+use ordinary::kinds::{Name, SessionId};
 use ordinary::record::Record;
 
 type Reader = fn(&[u8]) -> hp_read;
@@ -33,12 +33,21 @@ fn damage(packet: &mut Vec<u8>, dice: &mut Dice) {
     }
 }
 
+/// How many bytes a message has; only in MEMX-UDP may it be longer than a slot.
+fn length(protocol: usize, dice: &mut Dice) -> usize {
+    if protocol == 2 && dice.one_in(4) {
+        dice.pick(&[1450, 1470, 1471, 2900, 8950])
+    } else {
+        dice.pick(&[0, 0, 1, 5, 30])
+    }
+}
+
 fn specimen(protocol: usize, dice: &mut Dice) -> Vec<u8> {
     let count = dice.below(4);
     let messages: Vec<Vec<u8>> = (0..count)
         .map(|_| {
-            let size = dice.pick(&[0, 0, 1, 5, 30]);
-            dice.bytes(size)
+            let length = length(protocol, dice);
+            dice.bytes(length)
         })
         .collect();
     let lent: Vec<&[u8]> = messages.iter().map(Vec::as_slice).collect();
@@ -114,7 +123,7 @@ fn whatever_a_reader_takes_is_written_again_as_it_was() {
     for (protocol, (read, write)) in PROTOCOLS.into_iter().enumerate() {
         let mut dice = Dice::seeded(protocol as u64);
         let mut seen = [0; 9];
-        let mut longer = 0;
+        let (mut longer, mut jumbo) = (0, 0);
         for _ in 0..10_000 {
             let mut packet = specimen(protocol, &mut dice);
             damage(&mut packet, &mut dice);
@@ -134,6 +143,7 @@ fn whatever_a_reader_takes_is_written_again_as_it_was() {
                 length => &packet[18..][..length.into()],
             };
             longer += usize::from(fields.extra > 0);
+            jumbo += usize::from(packet.len() > 1472);
             let mut out = vec![0xee; packet.len() + 3];
             let wrote = write(fields, extra, body, &mut out);
             assert_eq!((wrote.refusal, wrote.bytes), (0, packet.len() as u64));
@@ -143,9 +153,10 @@ fn whatever_a_reader_takes_is_written_again_as_it_was() {
         assert!(seen[0] > 1000, "only {} were taken", seen[0]);
         let given = [3, 4, 5, 6].map(|refusal| seen[refusal]);
         assert!(given.iter().all(|&times| times > 25), "{seen:?}");
-        // only MEMX-UDP has extra bytes
-        let expected = if protocol == 2 { 1000..10_000 } else { 0..1 };
-        assert!(expected.contains(&longer), "{longer} in {protocol}");
+        // only MEMX-UDP has extra bytes, and packets of more than 1,472
+        let expected = |least| if protocol == 2 { least..10_000 } else { 0..1 };
+        assert!(expected(1000).contains(&longer), "{longer} in {protocol}");
+        assert!(expected(200).contains(&jumbo), "{jumbo} in {protocol}");
     }
 }
 
@@ -236,7 +247,7 @@ fn any_extra(protocol: usize, body: &[u8], dice: &mut Dice) -> Vec<u8> {
     let length = match dice.below(8) {
         0 => 236 + dice.below(4),
         1 => dice.below(300),
-        2 => (1472 + dice.below(7)).saturating_sub(22 + body.len()),
+        2 => (8972 + dice.below(7)).saturating_sub(22 + body.len()),
         3 => 1 + dice.below(9),
         _ => 0,
     };
@@ -262,7 +273,7 @@ fn any_body(limit: usize, dice: &mut Dice) -> Vec<u8> {
 fn a_writer_refuses_as_the_reader_would_refuse_the_packet() {
     for (protocol, (read, write)) in PROTOCOLS.into_iter().enumerate() {
         let mut dice = Dice::seeded(1000 + protocol as u64);
-        let limit = if protocol == 3 { 4098 } else { 1472 };
+        let limit = [1472, 1472, 8972, 4098][protocol];
         let mut seen = [0; 9];
         for _ in 0..10_000 {
             let fields = any_fields(protocol, &mut dice);
@@ -274,13 +285,13 @@ fn a_writer_refuses_as_the_reader_would_refuse_the_packet() {
                 refusal => refusal,
             };
             seen[expected as usize] += 1;
-            let mut out = [0xee; 5000];
+            let mut out = [0xee; 9000];
             let wrote = write(fields, &extra, &body, &mut out);
             let bytes = if expected == 0 { packet.len() } else { 0 };
             assert_eq!(wrote.refusal, expected, "{fields:?} {extra:?} {body:?}");
             assert_eq!(wrote.bytes, bytes as u64);
             assert_eq!(out[..bytes], packet[..bytes]);
-            assert_eq!(out[bytes..], [0xee; 5000][bytes..]);
+            assert_eq!(out[bytes..], [0xee; 9000][bytes..]);
         }
         for refusal in [0, 2, 3, 4, 5, 6, 7] {
             // Soup's numbers fit their field whatever they are
@@ -353,47 +364,79 @@ fn adding_refuses_as_the_reader_would_refuse_the_packets_before_and_after() {
     }
 }
 
-#[test]
-fn a_refused_datagram_leaves_record_area_and_tape_alone() {
+/// Takes datagrams into one record after another, with room that is too little for some of them, and
+/// asks that what is refused changes nothing, and that these refusals come up (0: none).
+fn refusals_change_nothing(
+    fresh: Record,
+    room: usize,
+    datagram: fn(&mut Dice) -> Vec<u8>,
+    refusals: &[usize],
+) {
     let mut dice = Dice::seeded(16);
-    let mut area = common::area();
-    let mut record = Record::open_ufo(Name(*b"8841      ")).unwrap();
+    let (mut record, mut area) = (fresh, common::area());
     let mut seen = [0; 17];
     for turn in 0..10_000 {
         if turn % 50 == 0 {
-            record = Record::open_ufo(Name(*b"8841      ")).unwrap();
+            record = fresh;
         }
-        let count = 1 + dice.below(4) as u16;
-        let first = 1 + dice.below(12) as u32;
-        let mut datagram = match dice.below(6) {
-            0 => ufo_s(first, &[]),
-            1 => ufo_e(first),
-            2 => specimen(0, &mut dice),
-            _ => common::ufo_numbered(first, count),
-        };
+        let mut datagram = datagram(&mut dice);
         damage(&mut datagram, &mut dice);
-        let mut tape = [0xee; 30];
         let (before, area_before) = (record, common::copied(&area));
-        match record.take_in_place(&mut area, &datagram, &mut tape) {
-            Ok(taken) => {
+        match take_with(room, &mut record, &mut area, &datagram) {
+            Ok((tape, messages)) => {
                 assert_eq!(record.check(), Ok(()));
-                assert_eq!(record.next.0 - before.next.0, taken.messages);
+                assert_eq!(record.next.0 - before.next.0, messages);
                 assert!(record.top >= before.top && record.ended >= before.ended);
-                assert!(tape[taken.bytes..].iter().all(|&byte| byte == 0xee));
-                let delivered = ordinary::blocks::Blocks::over(&tape[..taken.bytes]);
-                assert_eq!(delivered.count() as u64, taken.messages);
-                let early = record.held != before.held && taken.messages == 0;
+                let delivered = ordinary::blocks::Blocks::over(&tape);
+                assert_eq!(delivered.count() as u64, messages);
+                let early = record.held != before.held && messages == 0;
                 assert!(area == area_before || early, "only what is held is laid");
                 seen[0] += 1;
             }
-            Err(refusal) => {
-                assert_eq!((record, tape), (before, [0xee; 30]));
-                assert!(area == area_before, "a refusal changed the area");
-                seen[usize::from(refusal.number())] += 1;
-            }
+            Err(refusal) => seen[usize::from(refusal)] += 1,
         }
     }
-    for refusal in [0, 3, 4, 5, 6, 7, 9, 12, 16] {
+    for &refusal in refusals {
         assert!(seen[refusal] > 10, "{refusal}: {}", seen[refusal]);
     }
+}
+
+#[test]
+fn a_refused_datagram_leaves_record_area_and_tape_alone() {
+    refusals_change_nothing(
+        Record::open_ufo(Name(*b"8841      ")).unwrap(),
+        30,
+        |dice| {
+            let count = 1 + dice.below(4) as u16;
+            let first = 1 + dice.below(12) as u32;
+            match dice.below(6) {
+                0 => ufo_s(first, &[]),
+                1 => ufo_e(first),
+                2 => specimen(0, dice),
+                _ => common::ufo_numbered(first, count),
+            }
+        },
+        &[0, 3, 4, 5, 6, 7, 9, 12, 16],
+    );
+}
+
+#[test]
+fn a_refused_jumbo_datagram_leaves_record_area_and_tape_alone() {
+    refusals_change_nothing(
+        Record::open_memx(SessionId(7)),
+        5000,
+        |dice| {
+            let first = 1 + dice.roll() % 12;
+            let messages = [&[1; 12][..], &[2; 1470], &[3; 1471], &[4; 4000], &[5; 8951]];
+            let sent = [dice.pick(&messages), dice.pick(&messages[..4])];
+            match dice.below(12) {
+                0 => memx(0, 7, first),
+                1 => memx(1, 7, first),
+                2 => memx_data(8, first, &sent),
+                3 => specimen(2, dice),
+                _ => memx_data(7, first, &sent[dice.below(2)..]),
+            }
+        },
+        &[0, 2, 3, 4, 5, 6, 7, 9, 11, 12],
+    );
 }

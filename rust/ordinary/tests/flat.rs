@@ -294,6 +294,18 @@ fn memx_is_read() {
     ] {
         assert_eq!(hp_memx_read(&packet), yes(read), "{packet:?}");
     }
+    let longest = hp_packet {
+        session: 7,
+        number: 5,
+        count: 1,
+        start: 257,
+        length: 8715,
+        extra: 237,
+        ..kind(2)
+    };
+    let packet = |length| extended(&memx_data(7, 5, &[&vec![0; length]]), &[0; 237]);
+    assert_eq!(hp_memx_read(&packet(8713)), yes(longest));
+    assert_eq!(hp_memx_read(&packet(8714)), no(2));
     assert_eq!(hp_memx_read(b"\x02"), no(4));
     assert_eq!(hp_memx_read(b"\x03"), no(3));
     let mut short = extended(&memx_data(7, 0, &[]), b"!");
@@ -364,8 +376,8 @@ fn a_body_where_there_is_none_makes_the_packet_too_long() {
         (hp_soup_write, 4098, &soup),
         (hp_ufo_write_down, 1472, &down),
         (hp_ufo_write_message, 1472, &up),
-        (memx_write, 1472, &memx_udp),
-        (longer_memx_write, 1472, &longer),
+        (memx_write, 8972, &memx_udp),
+        (longer_memx_write, 8972, &longer),
     ];
     for (write, limit, types) in writers {
         for &(fields, fixed) in types {
@@ -387,8 +399,8 @@ fn an_unknown_type_is_3_unless_the_packet_is_too_long() {
         (hp_soup_write, b'X', 4098 - 2),
         (hp_ufo_write_down, b'T', 1472 - 1),
         (hp_ufo_write_message, b'S', 1472 - 3),
-        (memx_write, 3, 1472 - 18),
-        (longer_memx_write, 3, 1472 - 21),
+        (memx_write, 3, 8972 - 18),
+        (longer_memx_write, 3, 8972 - 21),
     ];
     for (write, unknown, room) in writers {
         let body = vec![0; room + 1];
@@ -402,34 +414,34 @@ fn an_unknown_type_is_3_unless_the_packet_is_too_long() {
 
 #[test]
 fn extra_bytes_are_refused_in_their_turn() {
-    let extra = [0xff; 1456];
+    let extra = [0xff; 8956];
     // a type, so many extra bytes, so many bytes of body, and the refusal; the count is 0
     for (r#type, extras, body, refusal) in [
         (0, 237, 0, 9),
         (0, 238, 0, 5),
         (0, 237, 1, 4),
         (0, 238, 1, 5),
-        (1, 238, 1472 - 18 - 238, 5),
-        (1, 238, 1473 - 18 - 238, 2),
-        (1, 237, 1472 - 18 - 237, 4),
-        (1, 237, 1473 - 18 - 237, 2),
-        (1, 1454, 0, 5),
-        (1, 1455, 0, 2),
+        (1, 238, 8972 - 18 - 238, 5),
+        (1, 238, 8973 - 18 - 238, 2),
+        (1, 237, 8972 - 18 - 237, 4),
+        (1, 237, 8973 - 18 - 237, 2),
+        (1, 8954, 0, 5),
+        (1, 8955, 0, 2),
         (2, 237, 0, 6),
         (2, 238, 0, 5),
         (2, 237, 1, 4),
         (2, 238, 1, 5),
-        (2, 238, 1472 - 20 - 238, 5),
-        (2, 238, 1473 - 20 - 238, 2),
-        (2, 1452, 0, 5),
-        (2, 1453, 0, 2),
+        (2, 238, 8972 - 20 - 238, 5),
+        (2, 238, 8973 - 20 - 238, 2),
+        (2, 8952, 0, 5),
+        (2, 8953, 0, 2),
         (3, 237, 0, 3),
         (3, 238, 0, 3),
         (3, 256, 1, 3),
-        (3, 1454, 0, 3),
-        (3, 1455, 0, 2),
-        (3, 238, 1472 - 18 - 238, 3),
-        (255, 238, 1473 - 18 - 238, 2),
+        (3, 8954, 0, 3),
+        (3, 8955, 0, 2),
+        (3, 238, 8972 - 18 - 238, 3),
+        (255, 238, 8973 - 18 - 238, 2),
     ] {
         let answer = hp_memx_write(kind(r#type), &extra[..extras], &vec![0; body], &mut []);
         assert_eq!(answer, wrote(refusal, 0), "{} {extras} {body}", r#type);

@@ -189,9 +189,14 @@ fn the_highest_numbers_are_held_and_released() {
     assert_eq!(desk.record.next.0, last + 1);
 }
 
-/// The message with this number, as a block.
+/// The message with this number, as a block: short, as long as a slot, or too long for it.
 fn told(number: u64) -> Vec<u8> {
-    blocks(&[&vec![number as u8; (number % 50) as usize]])
+    let length = match number % 10 {
+        3 => 1470,
+        7 => 1471,
+        _ => number % 50,
+    };
+    blocks(&[&vec![number as u8; length as usize]])
 }
 
 /// Some messages near the next number, before or after it, but none past the end: the first of them,
@@ -213,7 +218,7 @@ fn whatever_comes_early_late_or_twice_is_had_once() {
             _ => u64::MAX - 120,
         };
         let mut desk = Desk::memx(start);
-        let mut had = Had::nothing_from(start);
+        let mut had = Had::nothing_from(start).but_for(|number| number % 10 == 7);
         let mut delivered = Vec::new();
         for _ in 0..200 {
             let (first, count) = near(had.next, start, &mut dice);

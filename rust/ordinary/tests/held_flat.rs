@@ -103,24 +103,74 @@ fn taking_holds_and_releases() {
     assert!(area == expected);
 }
 
-#[test]
-fn a_broadcast_is_held_alike() {
-    let broadcast = hp_record {
+/// The same record of a MEMX-UDP session.
+fn broadcast() -> hp_record {
+    hp_record {
         style: 2,
         name: *b"\0not text\n",
         ..record()
-    };
+    }
+}
+
+#[test]
+fn a_broadcast_is_held_alike() {
     let (mut area, mut out) = (lent(), [0xee; 100]);
     let datagram = memx_data(1234, 3, &[b"three", b"four"]);
-    let taken = hp_take(broadcast, &mut area, &datagram, &mut out);
+    let taken = hp_take(broadcast(), &mut area, &datagram, &mut out);
     let due = [blocks(&[b"three", b"four"]), common::numbered(5, 2)].concat();
     let after = hp_record {
         next: 7,
         held: held(&[9]).0,
-        ..broadcast
+        ..broadcast()
     };
     assert_eq!((taken.messages, taken.record), (4, after));
     assert_eq!(out[..due.len()], due);
+}
+
+#[test]
+fn what_is_too_long_for_a_slot_is_missing_until_it_is_next() {
+    let long = [b'x'; 1471];
+    let (mut area, mut out) = (lent(), [0xee; 1500]);
+    let early = memx_data(1234, 13, &[&long, b"14"]);
+    let taken = hp_take(broadcast(), &mut area, &early, &mut out);
+    let after = hp_record {
+        top: 14,
+        held: held(&[5, 6, 9, 14]).0,
+        ..broadcast()
+    };
+    let held_one = hp_taken {
+        record: after,
+        ..hp_taken::default()
+    };
+    assert_eq!((taken, out), (held_one, [0xee; 1500]));
+    let mut expected = lent();
+    expected[14 * SLOT..][..4].copy_from_slice(b"\0\x0214");
+    assert!(area == expected);
+    let range = hp_missing_range(after, 2);
+    assert_eq!((range.first, range.last), (10, 13));
+
+    // once 13 is next it is delivered, and 14 behind it
+    let given = hp_record {
+        next: 13,
+        held: held(&[14]).0,
+        ..after
+    };
+    let taken = hp_take(given, &mut area, &memx_data(1234, 13, &[&long]), &mut out);
+    let due = blocks(&[&long, b"14"]);
+    let delivered = hp_taken {
+        refusal: 0,
+        bytes: due.len() as u64,
+        messages: 2,
+        record: hp_record {
+            next: 15,
+            held: 0,
+            ..given
+        },
+    };
+    assert_eq!(taken, delivered);
+    assert_eq!(out[..due.len()], due);
+    assert_eq!(out[due.len()..], [0xee; 1500][due.len()..]);
+    assert!(area == expected);
 }
 
 /// Records with areas of which one thing is wrong, and whether it is the record.

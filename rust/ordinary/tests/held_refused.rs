@@ -3,7 +3,7 @@
 mod common;
 
 use common::desk::{waiting, Desk};
-use common::{held, number, numbered, take_into, ufo_e, ufo_numbered, ufo_s};
+use common::{held, number, numbered, take_into, take_with, ufo_e, ufo_numbered, ufo_s};
 use ordinary::clock::{Patience, Sheet};
 use ordinary::held::{Held, AREA, LONGEST, SLOT};
 use ordinary::kinds::Sequence;
@@ -14,22 +14,14 @@ fn room_is_needed_for_the_released_messages_as_well() {
     let mut desk = Desk::ufo(1);
     desk.take(&ufo_numbered(2, 2));
     desk.take(&ufo_numbered(5, 1));
-    let mut take = |room| {
-        let mut tape = vec![0xee; room];
-        let Desk { record, area } = &mut desk;
-        let (record_before, area_before) = (*record, area.clone());
-        let taken = record.take_in_place(area, &ufo_numbered(1, 1), &mut tape);
-        assert!(*area == area_before);
-        let changed = *record != record_before || tape.iter().any(|&byte| byte != 0xee);
-        assert_eq!(changed, taken.is_ok(), "{room}");
-        taken.map(|taken| (tape, taken.bytes, taken.messages))
-    };
+    let before = desk.area.clone();
+    let mut take = |room| take_with(room, &mut desk.record, &mut desk.area, &ufo_numbered(1, 1));
     let due = numbered(1, 3);
     for room in [0, numbered(1, 1).len(), due.len() - 1] {
-        assert_eq!(number(take(room)), 9, "{room}");
+        assert_eq!(take(room), Err(9), "{room}");
     }
-    let bytes = due.len();
-    assert_eq!(take(bytes), Ok((due, bytes, 3)));
+    assert_eq!(take(due.len()), Ok((due, 3)));
+    assert!(desk.area == before);
     assert_eq!((desk.record.next.0, desk.record.held), (4, held(&[5])));
 }
 

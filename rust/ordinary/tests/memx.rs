@@ -2,7 +2,7 @@
 
 mod common;
 
-use common::{blocks, extended, memx, memx_data, number, write_into, written};
+use common::{blocks, extended, filling, memx, memx_data, number, write_into, written};
 use ordinary::kinds::{Sequence, SessionId};
 use ordinary::memx::{read, write, Packet};
 
@@ -25,8 +25,8 @@ fn what_is_taken() {
             extra: b"",
         })
     );
-    let longest = memx_data(0, u64::MAX - 1, &[&[1; 1450]]);
-    assert_eq!(longest.len(), 1472);
+    let longest = memx_data(0, u64::MAX - 1, &[&[1; 8950]]);
+    assert_eq!(longest.len(), 8972);
     assert_eq!(
         read(&longest),
         Ok(Packet::Sequenced {
@@ -114,16 +114,44 @@ fn a_header_of_19_and_one_of_20_by_hand() {
 }
 
 #[test]
-fn a_longer_header_s_packet_has_the_same_limit() {
-    let longest = |length| extended(&memx_data(5, 6, &[&vec![b'x'; length]]), &[0xff; 237]);
-    assert_eq!(longest(1213).len(), 1472);
-    assert_eq!(number(read(&longest(1213))), 0);
-    assert_eq!(number(read(&longest(1214))), 2);
+fn a_packet_of_messages_has_8_972_bytes_at_most() {
+    for extra in [&b""[..], b"!", &[0xff; 237]] {
+        // as many messages as there can be, such as just fit a slot and such as don't, and one alone
+        for each in [0, 1, 1470, 1471, 8950] {
+            for (whole, refusal) in [(1473, 0), (8971, 0), (8972, 0), (8973, 2), (9000, 2)] {
+                let (count, blocks) = filling(whole - 20 - extra.len(), each);
+                let behind = [&count.to_be_bytes()[..], &blocks].concat();
+                let bytes = extended(&[memx(2, 1, 6), behind].concat(), extra);
+                assert_eq!(bytes.len(), whole);
+                let packet = data(6, count, extra, &blocks);
+                if refusal == 0 {
+                    assert!(read(&bytes) == Ok(packet), "{whole} of {each}");
+                    assert!(write_out(packet) == Ok(bytes), "{whole} of {each}");
+                } else {
+                    assert_eq!(number(read(&bytes)), refusal, "{whole} of {each}");
+                    assert_eq!(write_out(packet), Err(refusal), "{whole} of {each}");
+                }
+            }
+        }
+    }
+}
+
+#[test]
+fn a_packet_without_messages_has_the_same_limit() {
+    for extras in [0, 1, 237] {
+        for (kind, otherwise) in [(0, 4), (1, 4), (3, 3)] {
+            let mut packet = extended(&memx(kind, 1, 6), &[0xff; 237][..extras]);
+            for (length, refusal) in [(1473, otherwise), (8972, otherwise), (8973, 2), (9000, 2)] {
+                packet.resize(length, 0);
+                assert_eq!(number(read(&packet)), refusal, "{length} of type {kind}");
+            }
+        }
+    }
 }
 
 #[test]
 fn what_a_reader_refuses() {
-    let over = memx_data(1, 1, &[&[1; 1451]]);
+    let over = memx_data(1, 1, &[&[1; 8951]]);
     let heartbeat = memx(0, 1, 1);
     let shutdown = memx(1, 1, 1);
     let data = memx_data(1, 1, &[b"ab"]);
@@ -131,7 +159,7 @@ fn what_a_reader_refuses() {
     let cases: &[(&[u8], u8)] = &[
         (b"", 1),
         (&over, 2),
-        (&[0; 1473], 2),
+        (&[0; 8973], 2),
         (b"\x03", 3),
         (&memx(3, 1, 1), 3),
         (&extended(&memx(3, 1, 1), b"!"), 3),
@@ -251,7 +279,7 @@ fn bodiless(highest: u64, extra: &[u8]) -> [Packet<'_>; 2] {
 #[test]
 fn what_a_writer_refuses() {
     for extra in [&b""[..], b"!", &[0xff; 237]] {
-        let most = [0; 1453];
+        let most = [0; 8953];
         let over = &most[extra.len()..];
         let cases = [
             (data(0, 0, extra, over), 2),
@@ -273,7 +301,7 @@ fn what_a_writer_refuses() {
 
 #[test]
 fn a_header_has_237_extra_bytes_at_most() {
-    let extra = [0xff; 1455];
+    let extra = [0xff; 8955];
     for packet in bodiless(1, &extra[..237]) {
         let bytes = write_out(packet).unwrap();
         assert_eq!((bytes[1], bytes.len()), (255, 255));
@@ -284,7 +312,7 @@ fn a_header_has_237_extra_bytes_at_most() {
     assert_eq!(bytes[255..], *b"\0\x01\0\x02ab");
 
     // 5, before 4, 6 and 7
-    for length in [238, 239, 255, 256, 493, 494, 495, 1450] {
+    for length in [238, 239, 255, 256, 493, 494, 495, 1455, 8950] {
         let extra = &extra[..length];
         for packet in [
             data(1, 1, extra, b"\0\0"),
@@ -301,7 +329,7 @@ fn a_header_has_237_extra_bytes_at_most() {
 
     // 2, before 5
     for (length, bodiless_refusal, data_refusal) in
-        [(1452, 5, 5), (1453, 5, 2), (1454, 5, 2), (1455, 2, 2)]
+        [(8952, 5, 5), (8953, 5, 2), (8954, 5, 2), (8955, 2, 2)]
     {
         let extra = &extra[..length];
         for packet in bodiless(1, extra) {
@@ -309,8 +337,8 @@ fn a_header_has_237_extra_bytes_at_most() {
         }
         assert_eq!(write_out(data(1, 0, extra, b"")), Err(data_refusal));
     }
-    assert_eq!(write_out(data(1, 1, &extra[..238], &[0; 1214])), Err(5));
-    assert_eq!(write_out(data(1, 1, &extra[..238], &[0; 1215])), Err(2));
+    assert_eq!(write_out(data(1, 1, &extra[..238], &[0; 8714])), Err(5));
+    assert_eq!(write_out(data(1, 1, &extra[..238], &[0; 8715])), Err(2));
 }
 
 #[test]
@@ -321,12 +349,12 @@ fn what_is_read_is_written_again() {
         memx(1, u64::MAX, 0x1112_1314_1516_1718),
         memx_data(9, 1, &[b""]),
         memx_data(9, u64::MAX - 2, &[b"\n", b"\0"]),
-        memx_data(9, 1, &[&[0xff; 1450]]),
-        memx_data(9, 1, &[b"".as_slice(); 726]),
+        memx_data(9, 1, &[&[0xff; 8950]]),
+        memx_data(9, 1, &[b"".as_slice(); 4476]),
         extended(&memx(0, 1, 2), b"\x12"),
         extended(&memx(1, 1, 2), &[0xff; 237]),
-        extended(&memx_data(9, 1, &[&[0xff; 1449]]), b"!"),
-        extended(&memx_data(9, 1, &[b"".as_slice(); 607]), &[2; 237]),
+        extended(&memx_data(9, 1, &[&[0xff; 8949]]), b"!"),
+        extended(&memx_data(9, 1, &[b"".as_slice(); 4357]), &[2; 237]),
         extended(&memx_data(9, 1, &[b"a"]), &blocks(&[b"b", b"c"])),
     ] {
         assert_eq!(write_out(read(&packet).unwrap()), Ok(packet));

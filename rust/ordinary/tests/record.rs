@@ -88,7 +88,9 @@ fn the_readers_refusals_come_through() {
     let broadcast = record(MEMX, 1, 0, false, 0);
     for (datagram, ufo, memx_udp) in [
         (vec![], 1, 1),
-        (vec![b'S'; 1473], 2, 2),
+        (vec![b'S'; 1473], 2, 3),
+        (vec![2; 8972], 2, 5),
+        (vec![2; 8973], 2, 2),
         (b"X".to_vec(), 3, 3),
         (b"S".to_vec(), 4, 3),
         (vec![2], 3, 4),

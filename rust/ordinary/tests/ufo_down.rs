@@ -44,6 +44,7 @@ fn what_a_reader_refuses() {
         (b"", 1),
         (&over, 2),
         (&[0; 1473], 2),
+        (&ufo_s(1, &[&[7; 8963]]), 2), // of 8,972 bytes, which only MEMX-UDP may have
         (b"X", 3),
         (b"s\0\0\0\x01\0\0", 3),
         (b"\0", 3),

@@ -5,7 +5,7 @@ use denote.Ref.{now}
 use native.Mathlib.Omega.{arith}
 use borrow.Author.Tests.{eq-eqb}
 use lib.ListN.{length, drop-of-length-le}
-use Rattle.memx.specs.Packet.{write}
+use Rattle.memx.specs.Packet.{limit, write}
 use Rattle.flat_packet.proofs.Unfitting.{unfits}
 use Rattle.flat_memx.specs.Writing.{memxReply}
 use Rattle.flat_memx.proofs.Refusing.{unknown-type, news-with-body}
@@ -34,7 +34,7 @@ returns-2 c =
     let a = c .before .before .before .before .before .before .args in
     let extra = now (a .extra) in
     let body = now (a .body) in
-    unfits _ _ 1472 (18 + length extra + length body) 3 _ (unknown-type (a .fields) extra body _ (c .before .if2 .taken)) (c .unfit .ensures)
+    unfits _ _ limit (18 + length extra + length body) 3 _ (unknown-type (a .fields) extra body _ (c .before .if2 .taken)) (c .unfit .ensures)
 
 bodiless-requires : tie.Need-bodiless-requires
 bodiless-requires c κs = search needs
@@ -48,7 +48,7 @@ returns-3 c =
     let extra = now (a .extra) in
     let body = now (a .body) in
     let kind : a .fields .kind ≤ 1 = omega arith in
-    unfits _ _ 1472 (18 + length extra + length body) (c .before .bodiless .result) _ (rw (c .before .bodiless .ensures) (news-with-body (a .fields) extra body _ (omega arith) (omega arith) kind (omega arith))) (c .unfit2 .ensures)
+    unfits _ _ limit (18 + length extra + length body) (c .before .bodiless .result) _ (rw (c .before .bodiless .ensures) (news-with-body (a .fields) extra body _ (omega arith) (omega arith) kind (omega arith))) (c .unfit2 .ensures)
 
 write-heartbeat-requires : tie.Need-write-heartbeat-requires
 write-heartbeat-requires c κs = search needs

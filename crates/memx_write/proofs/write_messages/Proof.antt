@@ -6,11 +6,10 @@ use native.Mathlib.Omega.{arith}
 use borrow.Author.Tests.{not-true, not-false}
 use lib.ListN.{length}
 use Rattle.wire.specs.Checks.{taken, checked}
-use Rattle.wire.specs.Datagram.{limit}
 use Rattle.wire.proofs.Tests.{tests}
 use Rattle.wire.proofs.Settling.{refuses, lacks-room, has-room}
 use Rattle.blocks.specs.Blocks.{cut, isWhole, messagesOf}
-use Rattle.memx.specs.Packet.{Packet, messages, headerSize, laid}
+use Rattle.memx.specs.Packet.{Packet, messages, limit, headerSize, laid}
 use Rattle.memx.specs.Read.{read}
 use Rattle.blocks.proofs.Counting.{fills-says}
 use Rattle.memx.proofs.Header.{length-laid}

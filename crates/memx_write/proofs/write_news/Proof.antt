@@ -6,10 +6,9 @@ use native.Mathlib.Omega.{arith}
 use borrow.Author.Tests.{ne-eqb}
 use lib.ListN.{length}
 use Rattle.wire.specs.Checks.{taken, checked}
-use Rattle.wire.specs.Datagram.{limit}
 use Rattle.wire.proofs.Tests.{tests}
 use Rattle.wire.proofs.Settling.{refuses, lacks-room, has-room}
-use Rattle.memx.specs.Packet.{headerSize, headed}
+use Rattle.memx.specs.Packet.{limit, headerSize, headed}
 use Rattle.memx.specs.Read.{news, read}
 use Rattle.memx.proofs.Header.{length-headed}
 use Rattle.memx.proofs.Verdicts.{headedChecks, restChecks, news-verdict}

@@ -1,9 +1,10 @@
 //! The cases of the session record's functions.
 
-use super::{room, DATAGRAM};
-use crate::both::{both, copied, Agreed, Difference};
+use super::room;
+use crate::both::{blank, both, copied, Agreed, Difference};
 use crate::dice::Dice;
-use crate::make::{self, AREA};
+use crate::limits::{AREA, MEMX, MEMX_ROOM, UFO_ROOM};
+use crate::make;
 use crate::twin::Twin;
 use hinurapay::flat::{hp_record, hp_taken};
 use ordinary::flat as plain;
@@ -39,14 +40,14 @@ pub struct ToTake {
 impl ToTake {
     /// Makes a case.
     pub fn made(dice: &mut Dice) -> ToTake {
-        let (record, area, datagram) = make::to_take(DATAGRAM, dice);
+        let (record, area, datagram) = make::to_take(dice);
         let mut case = ToTake {
             record,
             area,
             datagram,
             out: Vec::new(),
         };
-        case.out = room(case.with_room().bytes, dice);
+        case.out = room_to_take(case.with_room().bytes, dice);
         case
     }
 
@@ -54,12 +55,24 @@ impl ToTake {
     pub fn with_room(&self) -> plain::hp_taken {
         thread_local! {
             // more than a packet and all that can be held
-            static AMPLE: RefCell<Vec<u8>> = RefCell::new(vec![0; DATAGRAM + AREA]);
+            static AMPLE: RefCell<Vec<u8>> = RefCell::new(vec![0; MEMX + AREA]);
         }
         let mut area = copied(&[&self.area]);
         AMPLE.with_borrow_mut(|out| {
             plain::hp_take(self.record.twin(), &mut area, &self.datagram, out)
         })
+    }
+}
+
+/// Room for what is due: mostly as for any output, but where that is much a byte too little, just
+/// enough, or as much as is never too little for UFO or for MEMX-UDP.
+fn room_to_take(due: u64, dice: &mut Dice) -> Vec<u8> {
+    let bytes = due as usize;
+    if bytes > AREA / 2 || dice.one_in(32) {
+        let less = bytes.saturating_sub(1);
+        blank(dice.pick(&[less, bytes, UFO_ROOM, MEMX_ROOM]))
+    } else {
+        room(due, dice)
     }
 }
 

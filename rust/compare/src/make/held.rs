@@ -3,18 +3,10 @@
 use super::{block, flag, length, near, number, text};
 use crate::both::copied;
 use crate::dice::Dice;
+use crate::limits::{AREA, LONGEST, SLOT};
 use crate::twin::Twin;
 use hinurapay::flat::hp_record;
 use ordinary::flat::hp_standing_of;
-
-/// How many bytes a slot has.
-const SLOT: usize = 1472;
-
-/// How many bytes an area has at least.
-pub const AREA: usize = 32 * SLOT;
-
-/// The longest message that a slot holds.
-const LONGEST: usize = SLOT - 2;
 
 /// A session record: mostly one that hangs together.
 pub fn record(dice: &mut Dice) -> hp_record {

@@ -1,7 +1,11 @@
 //! Packets, lawful and damaged, and what is to be written as one.
 
-use super::{area, block, blocks, damage, decimal, few, length, near, number, sound_record, text};
+use super::{
+    area, block, blocks, brimming, damage, decimal, few, length, long_blocks, near, number,
+    sound_record, text,
+};
 use crate::dice::Dice;
+use crate::limits::{MEMX, UFO};
 use hinurapay::flat::{hp_packet, hp_record};
 use hinurapay::memx::MOST_EXTRA;
 
@@ -54,16 +58,32 @@ pub fn memx(session: u64, number: u64, dice: &mut Dice) -> Vec<u8> {
     packet.extend(number.to_be_bytes());
     packet.extend(dice.bytes(extras));
     if kind == 2 {
-        let count = few(dice);
+        let (count, blocks) = if dice.one_in(3) {
+            long_blocks(MEMX - 20 - extras, dice)
+        } else {
+            let count = few(dice);
+            (count, blocks(count, dice))
+        };
         packet.extend(told(count, dice).to_be_bytes());
-        packet.extend(blocks(count, dice));
+        packet.extend(blocks);
     }
     packet
 }
 
+/// A MEMX-UDP packet to be read, at times damaged.
+pub fn memx_to_read(dice: &mut Dice) -> Vec<u8> {
+    let (session, number) = (number(dice), number(dice));
+    let mut packet = memx(session, number, dice);
+    damage(&mut packet, MEMX, dice);
+    packet
+}
+
 /// A record, its area, and a datagram for it: mostly of the record's style and session, and about its
-/// next number or one that is held then.
-pub fn to_take(limit: usize, dice: &mut Dice) -> (hp_record, Vec<u8>, Vec<u8>) {
+/// next number or one that is held then; seldom as much as there can be to deliver.
+pub fn to_take(dice: &mut Dice) -> (hp_record, Vec<u8>, Vec<u8>) {
+    if dice.one_in(64) {
+        return brimming(dice);
+    }
     let record = sound_record(dice);
     let area = area(record.held, dice);
     let first = match dice.below(8) {
@@ -73,15 +93,15 @@ pub fn to_take(limit: usize, dice: &mut Dice) -> (hp_record, Vec<u8>, Vec<u8>) {
         4 | 5 => record.next,
         _ => near(record.next, dice),
     };
-    let mut datagram = if (record.style == 2) != dice.one_in(40) {
+    let (mut datagram, limit) = if (record.style == 2) != dice.one_in(40) {
         let session = if dice.one_in(12) {
             number(dice)
         } else {
             record.session
         };
-        memx(session, first, dice)
+        (memx(session, first, dice), MEMX)
     } else {
-        ufo_down(first, dice)
+        (ufo_down(first, dice), UFO)
     };
     if dice.one_in(2) {
         damage(&mut datagram, limit, dice);
@@ -241,15 +261,20 @@ pub fn to_write(
 }
 
 /// A MEMX-UDP packet to be written, the extra bytes of its header, and its body: no extra bytes, a
-/// few, about as many as may be, or so many that with the body the whole is about the limit.
-pub fn memx_to_write(limit: usize, dice: &mut Dice) -> (hp_packet, Vec<u8>, Vec<u8>) {
-    let (fields, body) = to_write(&[0, 1, 2, 2], &[2], false, limit, dice);
+/// few, about as many as may be, or so many that with the body the whole is about the limit. One in
+/// four packets of messages has long ones.
+pub fn memx_to_write(dice: &mut Dice) -> (hp_packet, Vec<u8>, Vec<u8>) {
+    let (mut fields, mut body) = to_write(&[0, 1, 2, 2], &[2], false, MEMX, dice);
     let extras = match dice.below(32) {
         // beside extra bytes and body a packet has 18 or 20 bytes
-        0 => (limit + dice.below(7)).saturating_sub(22 + body.len()),
+        0 => (MEMX + dice.below(7)).saturating_sub(22 + body.len()),
         1 | 2 => MOST_EXTRA - 1 + dice.below(4),
         3 => dice.below(600),
         _ => extras(dice),
     };
+    if fields.r#type == 2 && dice.one_in(4) {
+        let (count, blocks) = long_blocks((MEMX - 20).saturating_sub(extras), dice);
+        (fields.count, body) = (told(count, dice), blocks);
+    }
     (fields, dice.bytes(extras), body)
 }

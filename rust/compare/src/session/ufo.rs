@@ -1,8 +1,9 @@
 //! The sending end of UFO: a log, and the packets out of it.
 
-use super::{agreed, laid, Sender, DATAGRAM};
+use super::{agreed, laid, Heard, Sender};
 use crate::both::{blank, both};
 use crate::dice::Dice;
+use crate::limits::UFO;
 use hinurapay::flat::{hp_log, hp_packet, hp_record};
 
 /// A UFO server with its log.
@@ -35,7 +36,7 @@ impl Ufo {
     fn slip(&self, first: u32, count: u16) -> Vec<u8> {
         let log = self.log;
         laid(both!(
-            hp_log_answer(log, tape, first, count, out); lent tape = &self.bytes; room out = blank(DATAGRAM)
+            hp_log_answer(log, tape, first, count, out); lent tape = &self.bytes; room out = blank(UFO)
         ))
     }
 
@@ -67,14 +68,15 @@ impl Sender for Ufo {
         agreed(both!(hp_open_ufo(b"8841      "))).answer.record
     }
 
-    fn read(datagram: &[u8]) -> u64 {
+    fn read(datagram: &[u8]) -> Heard {
         let read = agreed(both!(hp_ufo_read_down(bytes); lent bytes = datagram));
         let packet = read.answer.packet;
-        match packet.r#type {
+        let top = match packet.r#type {
             b'E' => packet.number,
             // of a heartbeat one less than the next
             _ => packet.number + u64::from(packet.count) - 1,
-        }
+        };
+        Heard::of(datagram, &packet, top)
     }
 
     fn send(&mut self, dice: &mut Dice) -> Vec<u8> {

@@ -16,12 +16,13 @@ static int wrong = 0;
 static const uint8_t NAME[10] = {'8', '8', '4', '1', ' ', ' ', ' ', ' ', ' ', ' '};
 static const uint8_t HELLO[5] = {'h', 'e', 'l', 'l', 'o'};
 
+/* the longest MEMX-UDP packet, and room for it, or for the longest UFO packet, and all held messages */
+enum { SLOT = 1472, JUMBO = 8972, ROOM = JUMBO + 31 * SLOT, UFO_ROOM = 1472 + 31 * SLOT, FRESH = 0x5a };
+
 /* the output, which holds FRESH wherever nothing was written */
-enum { ROOM = 1500, FRESH = 0x5a };
 static uint8_t out[ROOM];
 
 /* the held area, which holds FRESH wherever nothing was held */
-enum { SLOT = 1472 };
 static uint8_t area[32 * SLOT];
 
 static void clear(void) {
@@ -357,10 +358,42 @@ static void longest_header(void) {
     clear();
     CHECK(turned_down(hp_memx_write(fields, bytes + 18, 237, HELLO, 1, out, sizeof out), 4));
     CHECK(turned_down(hp_memx_write(fields, bytes + 18, 238, HELLO, 1, out, sizeof out), 5));
-    CHECK(turned_down(hp_memx_write(fields, bytes + 18, 1454, NULL, 0, out, sizeof out), 5));
-    CHECK(turned_down(hp_memx_write(fields, bytes + 18, 1454, HELLO, 1, out, sizeof out), 2));
+    CHECK(turned_down(hp_memx_write(fields, bytes + 18, 8954, NULL, 0, out, sizeof out), 5));
+    CHECK(turned_down(hp_memx_write(fields, bytes + 18, 8954, HELLO, 1, out, sizeof out), 2));
     CHECK(turned_down(hp_memx_write(of_type(3), bytes + 18, 238, NULL, 0, out, sizeof out), 3));
-    CHECK(turned_down(hp_memx_write(of_type(3), bytes + 18, 1455, NULL, 0, out, sizeof out), 2));
+    CHECK(turned_down(hp_memx_write(of_type(3), bytes + 18, 8955, NULL, 0, out, sizeof out), 2));
+}
+
+/* a packet of session 7 with one message of so many bytes: it stands here, and so long is it */
+static uint8_t jumbo[JUMBO + 1];
+static size_t lay_jumbo(uint8_t number, size_t length) {
+    memset(jumbo, number, sizeof jumbo);
+    memset(jumbo, 0, 20);
+    jumbo[0] = 2;
+    jumbo[1] = 18;
+    jumbo[9] = 7;
+    jumbo[17] = number;
+    jumbo[19] = 1;
+    jumbo[20] = (uint8_t)(length >> 8);
+    jumbo[21] = (uint8_t)length;
+    return 22 + length;
+}
+
+/* a packet of 8,972 bytes is read and written, and not one of a byte more */
+static void longest_packet(void) {
+    size_t length = lay_jumbo(1, 8950);
+    hp_read read = hp_memx_read(jumbo, length);
+    CHECK(length == JUMBO && read.refusal == 0 && read.packet.type == 2 && read.packet.number == 1);
+    CHECK(read.packet.count == 1 && read.packet.start == 20 && read.packet.length == 8952 && read.packet.extra == 0);
+    CHECK(hp_ufo_read_down(jumbo, 1473).refusal == 2); /* UFO's limit is another */
+    clear();
+    CHECK(turned_down(hp_memx_write(read.packet, NULL, 0, jumbo + 20, 8952, out, JUMBO - 1), 9));
+    CHECK(turned_down(hp_memx_write(read.packet, NULL, 0, jumbo + 20, 8953, out, sizeof out), 2));
+    CHECK(turned_down(hp_memx_write(read.packet, HELLO, 1, jumbo + 20, 8952, out, sizeof out), 2));
+    CHECK(wrote(hp_memx_write(read.packet, NULL, 0, jumbo + 20, 8952, out, JUMBO), jumbo, JUMBO));
+    length = lay_jumbo(1, 8951);
+    read = hp_memx_read(jumbo, length);
+    CHECK(length == JUMBO + 1 && read.refusal == 2 && read.packet.type == 0 && read.packet.length == 0);
 }
 
 static hp_tcp of_tcp_type(uint8_t type) {
@@ -555,6 +588,51 @@ static void not_held(void) {
     }
 }
 
+/* an early message of 1,470 bytes is held and one of 1,471 is not: it is missing, and delivered once it is next */
+static void too_long(void) {
+    hp_record fresh = hp_open_memx(7).record;
+    clear();
+    size_t length = lay_jumbo(3, 1470);
+    hp_taken taken = take(fresh, jumbo, length);
+    CHECK(taken.refusal == 0 && taken.bytes == 0 && taken.record.held == 1 << 3 && slot_has(3, jumbo + 20, SLOT));
+    length = lay_jumbo(2, 1471);
+    taken = take(taken.record, jumbo, length);
+    CHECK(taken.refusal == 0 && taken.bytes == 0 && taken.record.held == 1 << 3 && slot_has(2, "", 0));
+    length = lay_jumbo(4, 1471);
+    taken = take(taken.record, jumbo, length);
+    CHECK(taken.refusal == 0 && taken.record.held == 1 << 3 && taken.record.top == 4 && slot_has(4, "", 0) && laid("", 0));
+    CHECK(range_is(taken.record, 0, 1, 2) && range_is(taken.record, 1, 4, 4) && range_is(taken.record, 2, 0, 0));
+    hp_asked asked = hp_ask(taken.record, (hp_sheet){0, 0, 0}, (hp_patience){0, 0, 0}, 0);
+    CHECK(asked.what == 2 && asked.first == 1 && asked.count == 2);
+
+    length = lay_jumbo(1, 0);
+    taken = take(taken.record, jumbo, length);
+    CHECK(taken.refusal == 0 && taken.messages == 1 && taken.record.next == 2 && range_is(taken.record, 0, 2, 2));
+    length = lay_jumbo(2, 1471);
+    taken = take(taken.record, jumbo, length);
+    CHECK(taken.refusal == 0 && taken.messages == 2 && taken.bytes == 1473 + SLOT && taken.record.next == 4);
+    CHECK(memcmp(out, jumbo + 20, 1473) == 0 && memcmp(out + 1473, area + 3 * SLOT, SLOT) == 0 && out[1473 + SLOT] == FRESH);
+}
+
+/* where 31 messages of 1,470 bytes are held, a packet of 8,972 has room in 54,604 bytes and not in 47,104 */
+static void room(void) {
+    static uint8_t before[32 * SLOT];
+    hp_record given = hp_open_memx(7).record;
+    clear();
+    for (uint8_t number = 2; number <= 32; number++) given = take(given, jumbo, lay_jumbo(number, 1470)).record;
+    memcpy(before, area, sizeof area);
+    size_t length = lay_jumbo(1, 8950), needed = 8952 + 31 * SLOT, rooms[] = {0, 8952, UFO_ROOM, needed - 1};
+    CHECK(given.held == ~UINT32_C(2) && UFO_ROOM == 47104 && ROOM == 54604);
+    for (size_t each = 0; each < sizeof rooms / sizeof *rooms; each++) {
+        hp_taken taken = hp_take(given, area, sizeof area, jumbo, length, out, rooms[each]);
+        CHECK(taken.refusal == 9 && taken.bytes == 0 && taken.messages == 0 && same_record(taken.record, given));
+        CHECK(laid("", 0) && memcmp(area, before, sizeof area) == 0);
+    }
+    hp_taken taken = hp_take(given, area, sizeof area, jumbo, length, out, needed);
+    CHECK(taken.refusal == 0 && taken.messages == 32 && taken.bytes == needed && taken.record.next == 33 && taken.record.held == 0);
+    CHECK(take(given, jumbo, length).refusal == 0 && memcmp(out, jumbo + 20, 8952) == 0);
+}
+
 static void patience(void) {
     hp_timed timed = hp_time((hp_sheet){0, 0, 0}, 100);
     CHECK(timed.refusal == 0 && timed.sheet.mean == 100 && timed.sheet.spread == 50 && timed.sheet.timed == 1);
@@ -648,11 +726,14 @@ int main(void) {
     memx();
     longer_header();
     longest_header();
+    longest_packet();
     tcp();
     delivery();
     record();
     early();
     not_held();
+    too_long();
+    room();
     patience();
     lending();
     return wrong;

@@ -14,6 +14,8 @@ pub fn ranges(record: &Record) -> Vec<(u64, u64)> {
 /// what arrived.
 pub struct Had {
     numbers: BTreeSet<u64>,
+    /// Which messages are too long to be held.
+    too_long: fn(u64) -> bool,
     /// The number of the next message to be delivered.
     pub next: u64,
     /// The highest number known to be published.
@@ -25,9 +27,15 @@ impl Had {
     pub fn nothing_from(next: u64) -> Had {
         Had {
             numbers: BTreeSet::new(),
+            too_long: |_| false,
             next,
             top: next - 1,
         }
+    }
+
+    /// The same where these messages are too long to be held.
+    pub fn but_for(self, too_long: fn(u64) -> bool) -> Had {
+        Had { too_long, ..self }
     }
 
     /// So many messages arrive, from `first` on; none of them if it is a heartbeat or an end.
@@ -38,7 +46,8 @@ impl Had {
             self.next = self.next.max(after);
         } else {
             let near = (first..after).take_while(|number| number - self.next <= 31);
-            self.numbers.extend(near);
+            let short = near.filter(|&number| !(self.too_long)(number));
+            self.numbers.extend(short);
         }
         while self.numbers.contains(&self.next) {
             self.next += 1;

@@ -7,8 +7,10 @@ pub mod had;
 pub mod stream;
 
 use ordinary::held::{Held, AREA, SLOT};
+use ordinary::memx::ROOM;
 use ordinary::record::Record;
 use ordinary::refusal::Refusal;
+use std::iter;
 
 /// A small generator that gives the same numbers for the same seed.
 pub struct Dice(u64);
@@ -88,6 +90,17 @@ pub fn memx(kind: u8, session: u64, number: u64) -> Vec<u8> {
 pub fn memx_data(session: u64, first: u64, messages: &[&[u8]]) -> Vec<u8> {
     let count = (messages.len() as u16).to_be_bytes();
     [&memx(2, session, first)[..], &count, &blocks(messages)].concat()
+}
+
+/// Blocks that have so many bytes together, and how many there are: messages of `each` bytes, the last
+/// one longer by what is left over.
+pub fn filling(bytes: usize, each: usize) -> (u16, Vec<u8>) {
+    let count = (bytes / (2 + each)).max(1);
+    let (message, mut last) = (vec![b'x'; each], vec![b'y'; each]);
+    last.resize(bytes - (count - 1) * (2 + each) - 2, b'z');
+    let mut messages = vec![&message[..]; count - 1];
+    messages.push(&last);
+    (count as u16, blocks(&messages))
 }
 
 /// A MEMX-UDP packet with these bytes more in its header, which says so.
@@ -213,17 +226,28 @@ pub fn held(numbers: &[u64]) -> Held {
     )
 }
 
-/// Takes a datagram with room to spare: what was delivered and how many messages that is, or the
+/// Takes a datagram with as much room as is never too little, as [`take_with`] does.
+pub fn take_into(
+    record: &mut Record,
+    area: &mut [u8],
+    datagram: &[u8],
+) -> Result<(Vec<u8>, u64), u8> {
+    take_with(ROOM, record, area, datagram)
+}
+
+/// Takes a datagram with so much room: what was delivered and how many messages that is, or the
 /// refusal's number. Past what was delivered the tape must be as before, and so must everything be
 /// on a refusal.
-pub fn take_into(
+pub fn take_with(
+    room: usize,
     record: &mut Record,
     area: &mut [u8],
     datagram: &[u8],
 ) -> Result<(Vec<u8>, u64), u8> {
     let (record_before, area_before) = (*record, copied(area));
     let untouched = [UNTOUCHED; SLOT];
-    let mut tape = in_pieces([&untouched[..]; 32]);
+    let mut tape = in_pieces(iter::repeat_n(&untouched[..], room.div_ceil(SLOT)));
+    tape.truncate(room);
     let taken = record.take_in_place(area, datagram, &mut tape);
     let bytes = taken.map_or(0, |taken| taken.bytes);
     for rest in tape[bytes..].chunks(SLOT) {
