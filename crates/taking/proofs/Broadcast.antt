@@ -27,6 +27,7 @@ use Rattle.record.specs.declared.Record.{Record}
 use Rattle.record.specs.declared.Session.{Session}
 use Rattle.record.specs.declared.Session.the-variants.{Memx}
 use Rattle.hearing.specs.Hearing.{Report, news, end, owned, ofMemx, hear}
+use Rattle.taking.specs.Room.{memxRoom}
 use Rattle.taking.specs.Taking.{Taking, reporting, taking}
 use Rattle.taking.proofs.Took.{Took, took}
 
@@ -65,11 +66,11 @@ module _ (r : Record) (own : SessionId) (mine : r .session ≡ Memx own) (area d
       let bound = leb-true (r .top .0) n high in
       rw (w .reported .gives, ← said) (omega arith, or-true (r .ended))
 
--- a fresh record of session 1 that takes two datagrams, with any area of 32 slots and room for any packet
+-- a fresh record of session 1 that takes two datagrams, with any area of 32 slots and room for a packet and all held messages
 module _ (area : List ℕ) (slots : areaSize ≤ length area) where
   abbrev after-two : List ℕ → List ℕ → Verdict State
   after-two d e =
-      taking (fresh (Memx (record { 0 = 1 }))) area d 1472 into λ t. taking (t .after) (t .area) e 1472 into λ u. standing (u .after)
+      taking (fresh (Memx (record { 0 = 1 }))) area d memxRoom into λ t. taking (t .after) (t .area) e memxRoom into λ u. standing (u .after)
 
   -- Message 1 comes, then a heartbeat with the number 2: message 2 is missing.
   pub one-then-heartbeat-two : after-two (bytesOf 23 0x02_12_0000000000000001_0000000000000001_0001_0001_5A) (bytesOf 18 0x00_12_0000000000000001_0000000000000002) ≡ taken (missing ((2 to 2) ∷ []))

@@ -95,7 +95,7 @@ functions! {
     /// Opens a record of a MEMX-UDP session; its `name` is zeros.
     hp_open_memx(session: u64) -> hp_opened;
     /// Takes a datagram, delivers what is next, and holds what is early in the area, which is 32 slots
-    /// of 1,472 bytes; what is longer than a slot is not held. Output of [`ufo::ROOM`](crate::ufo::ROOM)
+    /// of 1,472 bytes; a message of over 1,470 is not held. Output of [`ufo::ROOM`](crate::ufo::ROOM)
     /// bytes is never too short in UFO style, of [`memx::ROOM`](crate::memx::ROOM) in MEMX-UDP.
     hp_take(record: hp_record, room area, lent datagram, room out) -> hp_taken;
     /// Whether a record is complete, and what is missing.
