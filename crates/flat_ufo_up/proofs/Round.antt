@@ -4,13 +4,14 @@ use Prim.Native.Nat.{ℕ, _+_, _-_}
 use mathlib.Core.Path.{_≡_, refl, sym, _∙_}
 use mathlib.Core.List.{List, [], _∷_, _++_}
 use native.Mathlib.Omega.{arith}
-use borrow.Author.Tests.{eqb-true, leb-true}
+use borrow.Author.Tests.{eqb-true, leb-true, not-true}
 use lib.ListN.{length, getD, take, drop, length-append}
 use lib.Seq.{take-at, drop-at, drop-drop, getD-drop}
 use Rattle.wire.specs.Fields.{bytesOf, Bytes}
 use Rattle.wire.specs.Checks.{if_then_else_, _is_, _atMost_, _else_, Check, checked, Passed, Verdict, refused, taken, _into_}
 use Rattle.wire.specs.Datagram.{opening}
 use Rattle.wire.specs.Reply.{within}
+use Rattle.text.specs.Text.{blank}
 use Rattle.wire.proofs.Tests.{nonzero}
 use Rattle.wire.proofs.Numbered.{never-checked, never-taken, never-under, never-either}
 use Rattle.wire.proofs.Checks.{not-both, taken-same, chosen, went}
@@ -205,7 +206,7 @@ module _ (p : Packet) (f : Flat p) (body : List ℕ) (b : Bytes body) (room : �
       let hu = f .user .0 in
       let hw = f .password .0 in
       let hs = f .name .0 in
-      alone-as (up.login u w s) 27 (leftL u w s) (λ c. ((hu, c .0), (hw, c .1 .0), (hs, c .1 .1 .0))) (simp (length-append, hu, hw, hs)) (reply-login u w s room hu hw hs) e
+      alone-as (up.login u w s) 27 (leftL u w s) (λ c. ((hu, c .0), (hw, c .1 .0), (hs, c .1 .1 .0), not-true (blank u) (c .1 .1 .1 .0))) (simp (length-append, hu, hw, hs)) (reply-login u w s room hu hw hs) e
       ∙ rw (same-user u (f .user), same-name w (f .password), same-name s (f .name))
 
   request-as : alone 1472 9 body (reply (up.request (p .number) (p .count)) room) ≡ taken d → messageRead d 0 ≡ requested 84 (p .number) (p .count) 9

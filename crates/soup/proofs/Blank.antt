@@ -1,4 +1,4 @@
--- A blank number is never nought: a packet whose number is blank is not taken, whatever else it says.
+-- A blank number is never nought, and a blank user is nobody: a packet with such a blank is not taken, whatever else it says.
 -- Assumes nothing.
 use Prim.Native.Nat.{ℕ}
 use mathlib.Core.List.{List}
@@ -6,7 +6,7 @@ use mathlib.Core.Path.{_≡_, sym, _∙_}
 use mathlib.Core.Bool.{true, true≢false}
 use lib.ListN.{getD}
 use borrow.Author.Tests.{not-true}
-use Rattle.wire.specs.Checks.{taken}
+use Rattle.wire.specs.Checks.{taken, Passed}
 use Rattle.text.specs.Text.{blank}
 use Rattle.wire.proofs.Checks.{all-passed}
 use Rattle.decimal.specs.Decimal.{valueOf}
@@ -29,14 +29,20 @@ module _ (d : List ℕ) (p : Packet) where
       let passed = all-passed (acceptChecks session number) (taken (accept session (valueOf number))) p (sized .1) in
       true≢false (sym b ∙ not-true (blank number) (passed .0 .1 .1 .1 .0))
 
-  -- type 76 is L, and its number is the twenty bytes from 27 on
-  pub blank-is-no-login : getD d 0 0 ≡ 76 → read d ≡ taken p → blank (field 27 20 d) ≡ true → ⊥
-  unfolding loginOf
-  blank-is-no-login k e b =
-      let user = field 1 6 d in
-      let password = field 7 10 d in
-      let session = field 17 10 d in
-      let number = field 27 20 d in
-      let sized = all-passed (sizedChecks 48 d) (loginOf user password session number) p (typed 76 k e) in
-      let passed = all-passed (loginChecks user password session number) (taken (login user password session (valueOf number))) p (sized .1) in
-      true≢false (sym b ∙ not-true (blank number) (passed .0 .1 .1 .1 .1 .0))
+  -- type 76 is L; its user is the six bytes from 1 on, its number the twenty from 27 on
+  module _ (k : getD d 0 0 ≡ 76) (e : read d ≡ taken p) where
+    passed-login : Passed (loginChecks (field 1 6 d) (field 7 10 d) (field 17 10 d) (field 27 20 d))
+    unfolding loginOf
+    passed-login =
+        let user = field 1 6 d in
+        let password = field 7 10 d in
+        let session = field 17 10 d in
+        let number = field 27 20 d in
+        let sized = all-passed (sizedChecks 48 d) (loginOf user password session number) p (typed 76 k e) in
+        all-passed (loginChecks user password session number) (taken (login user password session (valueOf number))) p (sized .1) .0
+
+    pub blank-is-no-login : blank (field 27 20 d) ≡ true → ⊥
+    blank-is-no-login b = true≢false (sym b ∙ not-true (blank (field 27 20 d)) (passed-login .1 .1 .1 .1 .1 .0))
+
+    pub nameless-is-no-login : blank (field 1 6 d) ≡ true → ⊥
+    nameless-is-no-login b = true≢false (sym b ∙ not-true (blank (field 1 6 d)) (passed-login .1 .1 .1 .1 .0))

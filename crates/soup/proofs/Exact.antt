@@ -17,7 +17,7 @@ use Rattle.wire.proofs.Checks.{all-passed, passed-all, not-both, taken-same, ch
 use Rattle.wire.proofs.Tests.{one-of-fact}
 use Rattle.wire.proofs.Width.{bytes-drop, bytes-take, length-part}
 use Rattle.decimal.specs.Decimal.{wellFormed, valueOf, written}
-use Rattle.soup.specs.Packet.{Packet, debug, accept, reject, sequenced, serverHeartbeat, endOfSession, login, unsequenced, clientHeartbeat, logout, line, write, Payload, Fit}
+use Rattle.soup.specs.Packet.{Packet, debug, accept, reject, sequenced, serverHeartbeat, endOfSession, login, unsequenced, clientHeartbeat, logout, line, write, Payload, PaddedRight, PaddedLeft, Fit}
 use Rattle.soup.specs.Read.{last, field, payload, unbroken, opening, lineChecks, sizedChecks, rejectChecks, acceptChecks, loginChecks, rejectOf, acceptOf, loginOf, readReject, readAccept, readLogin, byType, read}
 use Rattle.decimal.proofs.Written.{read-written, written-read, length-written}
 use Rattle.soup.proofs.Linefeed.{unbroken-none, none-unbroken, more, append-unbroken, right-unbroken, left-unbroken, written-unbroken}
@@ -59,7 +59,29 @@ logs-in : (user password session : List ℕ) (number : ℕ) → Fit (login user 
 unfolding Fit loginOf
 logs-in user password session number f =
     let r = read-written number (f .3) in
-    rw (f .0 .1, f .1 .1, f .2 .1, r .formed, r .filled, r .value, le-leb number (2 ^ 64 - 1) (omega arith))
+    rw (f .0 .1, f .1 .1, f .2 .1, r .formed, f .4, r .filled, r .value, le-leb number (2 ^ 64 - 1) (omega arith))
+
+-- the fields of a login are found in its line as they are, so that they decide
+pub login-decides : (user password session : List ℕ) (number : ℕ) → PaddedRight 6 user → PaddedRight 10 password → PaddedLeft 10 session → read (write (login user password session number)) ≡ loginOf user password session (written number)
+unfolding read
+login-decides user password session number a b c =
+    let w = written number in
+    let s = user ++ password ++ session ++ w in
+    let l : length s ≡ 46 = simp (length-append, length-written) (omega arith) in
+    let u : unbroken s ≡ true =
+    append-unbroken (user ++ password ++ session) w
+    (append-unbroken (user ++ password) session
+    (append-unbroken user password (right-unbroken user (a .1)) (right-unbroken password (b .1)))
+    (left-unbroken session (c .1)))
+    (written-unbroken number) in
+    let d = line 76 s in
+    goes-on-sized 76 s (eqb-false 76 10 refl) u 48 (loginOf (field 1 6 d) (field 7 10 d) (field 17 10 d) (field 27 20 d)) (omega arith) (omega arith)
+    ∙ rw (
+      field-in 76 0 6 s [] user (password ++ (session ++ w)) (simp append-assoc) refl (a .0),
+      field-in 76 6 10 s user password (session ++ w) (simp append-assoc) (a .0) (b .0),
+      field-in 76 16 10 s (user ++ password) session w (append-assoc (user ++ password) session w) (simp length-append (omega arith)) (c .0),
+      field-in 76 26 20 s (user ++ password ++ session) w [] (rw append-nil) (simp length-append (omega arith)) (length-written number),
+    )
 
 -- Nothing lawful is refused: a lawful packet, written, is read as that packet, with its fields.
 pub written-is-read : (p : Packet) → Fit p → read (write p) ≡ taken p
@@ -77,23 +99,7 @@ written-is-read (sequenced message) f = carries 83 message sequenced (eqb-false 
 written-is-read serverHeartbeat f = refl
 written-is-read endOfSession f = refl
 written-is-read (login user password session number) f =
-    let w = written number in
-    let s = user ++ password ++ session ++ w in
-    let l : length s ≡ 46 = simp (length-append, length-written) (omega arith) in
-    let u : unbroken s ≡ true =
-    append-unbroken (user ++ password ++ session) w
-    (append-unbroken (user ++ password) session
-    (append-unbroken user password (right-unbroken user (f .0 .1)) (right-unbroken password (f .1 .1)))
-    (left-unbroken session (f .2 .1)))
-    (written-unbroken number) in
-    let d = line 76 s in
-    goes-on-sized 76 s (eqb-false 76 10 refl) u 48 (loginOf (field 1 6 d) (field 7 10 d) (field 17 10 d) (field 27 20 d)) (omega arith) (omega arith)
-    ∙ rw (
-      field-in 76 0 6 s [] user (password ++ (session ++ w)) (simp append-assoc) refl (f .0 .0),
-      field-in 76 6 10 s user password (session ++ w) (simp append-assoc) (f .0 .0) (f .1 .0),
-      field-in 76 16 10 s (user ++ password) session w (append-assoc (user ++ password) session w) (simp length-append (omega arith)) (f .2 .0),
-      field-in 76 26 20 s (user ++ password ++ session) w [] (rw append-nil) (simp length-append (omega arith)) (length-written number),
-    ) (logs-in user password session number f)
+    login-decides user password session number (f .0) (f .1) (f .2) ∙ logs-in user password session number f
 written-is-read (unsequenced message) f = carries 85 message unsequenced (eqb-false 85 10 refl) f
 written-is-read clientHeartbeat f = refl
 written-is-read logout f = refl
@@ -189,7 +195,7 @@ module _ (d : List ℕ) (b : Bytes d) (o : Passed (opening d)) (p : Packet) wher
       let v = loginOf user password session number in
       let l : length d ≡ 48 = size 48 (omega arith) v e in
       let r = all-passed (loginChecks user password session number) (taken (login user password session (valueOf number))) p (verdict 48 (omega arith) v e) in
-      let n = numbered number (length-part 27 20 d (omega arith)) (r .0 .1 .1 .1 .0) (r .0 .1 .1 .1 .1 .0) (r .0 .1 .1 .1 .1 .1 .0) in
+      let n = numbered number (length-part 27 20 d (omega arith)) (r .0 .1 .1 .1 .0) (r .0 .1 .1 .1 .1 .1 .0) (r .0 .1 .1 .1 .1 .1 .1 .0) in
       let joined : user ++ password ++ session ++ number ≡ field 1 46 d = rw (← fields-join 1 6 10 d, ← fields-join 1 16 10 d, ← fields-join 1 26 20 d) in
       rw (← taken-same (login user password session (valueOf number)) p (r .1)) (
         (
@@ -197,6 +203,7 @@ module _ (d : List ℕ) (b : Bytes d) (o : Passed (opening d)) (p : Packet) wher
           (length-part 7 10 d (omega arith), r .0 .1 .0),
           (length-part 17 10 d (omega arith), r .0 .1 .1 .0),
           n .1,
+          not-true (blank user) (r .0 .1 .1 .1 .1 .0),
         ),
         ap (λ (s : List ℕ). line 76 (user ++ password ++ session ++ s)) (n .0) ∙ ap (line 76) joined ∙ framed 48 (omega arith) v e 76 t,
       )

@@ -7,4 +7,5 @@ pub mod Exact
 pub mod Order
 pub mod Specimen
 pub mod Blank
+pub mod Nameless
 mod Settled

@@ -65,6 +65,7 @@ loginChecks user password session number =
     ∷ (textThenSpaces password else 5)
     ∷ (spacesThenText session else 5)
     ∷ (wellFormed number else 5)
+    ∷ (not (blank user) else 6)
     ∷ (not (blank number) else 6)
     ∷ (valueOf number atMost 2 ^ 64 - 1 else 7)
     ∷ []

@@ -116,16 +116,27 @@ fn login_of(user: &[u8], password: &[u8], session: &[u8], digits: &[u8]) -> Read
     if !padded {
         return Reading::Refused(refusal::FORM);
     }
+    let nameless = text::is_blank(user);
     match decimal::read(digits) {
         Number::Misshapen => Reading::Refused(refusal::FORM),
         Number::Blank => Reading::Refused(refusal::ABSENT),
-        Number::Over => Reading::Refused(refusal::BOUND),
-        Number::Is(n) => Reading::Login {
-            user: names::get_user(user, 0),
-            password: Password(names::get_name(password, 0)),
-            session: names::get_name(session, 0),
-            number: Sequence(n),
-        },
+        Number::Over => {
+            if nameless {
+                return Reading::Refused(refusal::ABSENT);
+            }
+            Reading::Refused(refusal::BOUND)
+        }
+        Number::Is(n) => {
+            if nameless {
+                return Reading::Refused(refusal::ABSENT);
+            }
+            Reading::Login {
+                user: names::get_user(user, 0),
+                password: Password(names::get_name(password, 0)),
+                session: names::get_name(session, 0),
+                number: Sequence(n),
+            }
+        }
     }
 }
 

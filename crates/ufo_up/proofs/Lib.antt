@@ -4,6 +4,7 @@ pub mod UpMessage
 pub mod UpWalk
 pub mod UpPacket
 pub mod UpExactOne
+pub mod Nameless
 pub mod Exact
 pub mod UpInTurn
 mod UpFinding

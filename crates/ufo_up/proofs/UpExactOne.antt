@@ -5,12 +5,12 @@ use mathlib.Core.List.{List, [], _∷_, _++_, append-assoc}
 use mathlib.Core.Path.{_≡_, refl, ap, sym, _∙_}
 use mathlib.Core.Bool.{not}
 use native.Mathlib.Omega.{arith}
-use borrow.Author.Tests.{le-leb, eq-eqb, ne-eqb, leb-true, eqb-true}
+use borrow.Author.Tests.{le-leb, eq-eqb, ne-eqb, leb-true, eqb-true, not-true}
 use lib.ListN.{length, drop, length-append, length-drop, drop-of-length-le}
 use lib.Seq.{take-at, drop-at, take-all}
 use Rattle.wire.specs.Fields.{bytesOf, Bytes}
 use Rattle.wire.specs.Checks.{_is_, refused, taken, Check, _else_, checked, Passed}
-use Rattle.text.specs.Text.{textThenSpaces}
+use Rattle.text.specs.Text.{blank, textThenSpaces}
 use Rattle.wire.proofs.Tests.{nonzero}
 use Rattle.wire.proofs.Width.{be-bytesOf, be-last, be-lt, bytes-drop, length-bytesOf, length-part, part-again, first-again, written-again, written-last}
 use Rattle.wire.proofs.Checks.{not-both, came-by}
@@ -34,7 +34,7 @@ length-message logout f = omega arith
 
 -- what is left to check of a message that was written, by its fields
 abbrev pub leftL : List ℕ → List ℕ → List ℕ → List Check
-leftL u w s = (textThenSpaces u else 5) ∷ (textThenSpaces w else 5) ∷ (textThenSpaces s else 5) ∷ []
+leftL u w s = (textThenSpaces u else 5) ∷ (textThenSpaces w else 5) ∷ (textThenSpaces s else 5) ∷ (not (blank u) else 6) ∷ []
 
 abbrev pub leftT : ℕ → ℕ → List Check
 leftT n c = (not (n is 0) else 6) ∷ (not (c is 0) else 6) ∷ []
@@ -66,7 +66,7 @@ read-unsequenced b h = of-kind (85 ∷ b) 85 refl ∙ rw (le-leb (length (85 ∷
 -- reading what was written
 pub read-message : (m : Message) → FitMessage m → readMessage (writeMessage m) ≡ taken m
 unfolding readAlone
-read-message (login u w s) f = checks-login u w s (f .0 .0) (f .1 .0) (f .2 .0) ∙ rw (f .0 .1, f .1 .1, f .2 .1)
+read-message (login u w s) f = checks-login u w s (f .0 .0) (f .1 .0) (f .2 .0) ∙ rw (f .0 .1, f .1 .1, f .2 .1, f .3)
 read-message (request n c) f =
     checks-request n c (f .1) (f .3) ∙ rw (ne-eqb n 0 (λ e. omega arith), ne-eqb c 0 (λ e. omega arith))
 read-message (unsequenced b) f = read-unsequenced b (f .1)
@@ -84,6 +84,7 @@ module _ (s : List ℕ) (b : Bytes s) (m : Message) where
           (length-part 1 6 s (omega arith), p .1 .0),
           (length-part 7 10 s (omega arith), p .1 .1 .0),
           (length-part 17 10 s (omega arith), p .1 .1 .1 .0),
+          not-true (blank (userL s)) (p .1 .1 .1 .1 .0),
         ),
         rw (last, part-again 7 10 s, part-again 1 6 s) (first-again 76 s (omega arith) k),
       )

@@ -9,7 +9,7 @@ use Rattle.wire.specs.Fields.{be, bytesOf, Bytes}
 use Rattle.wire.specs.Checks.{if_then_else_, _is_, _atMost_, Verdict, refused, taken, Check, _else_, checked, _into_}
 use Rattle.wire.specs.Datagram.{limit, opening}
 use Rattle.names.specs.Names.{nameOf, userOf}
-use Rattle.text.specs.Text.{textThenSpaces}
+use Rattle.text.specs.Text.{blank, textThenSpaces}
 use Rattle.blocks.specs.Blocks.{frames, stated, first, Cut, torn, whole, upstream, endAt}
 use Rattle.blocks.specs.declared.Place.{Place}
 use Rattle.blocks.specs.declared.Place.the-variants as place
@@ -41,12 +41,12 @@ writeUp ms = frames (map writeMessage ms)
 abbrev pub mostData : ℕ
 mostData = 1469
 
--- which messages are lawful. A text field has its length and is padded on the right; it may be blank
+-- which messages are lawful. A text field has its length and is padded on the right; it may be blank, but not the user
 abbrev pub Field : ℕ → List ℕ → Type 0
 Field n s = (length s ≡ n) × (textThenSpaces s ≡ true)
 
 abbrev pub FitMessage : Message → Type 0
-FitMessage (login user password session) = Field 6 user × Field 10 password × Field 10 session
+FitMessage (login user password session) = Field 6 user × Field 10 password × Field 10 session × (blank user ≡ false)
 FitMessage (request first count) = (0 < first) × (first < 2 ^ 32) × (0 < count) × (count < 2 ^ 16)
 FitMessage (unsequenced bytes) = Bytes bytes × (length bytes ≤ mostData)
 FitMessage heartbeat = Unit
@@ -75,13 +75,14 @@ passwordL m = take 10 (drop 7 m)
 abbrev pub sessionL : List ℕ → List ℕ
 sessionL m = take 10 (drop 17 m)
 
--- three text fields
+-- three text fields, of which the user is not blank
 abbrev pub checksL : List ℕ → List Check
 checksL m =
     (length m is 27 else 4)
     ∷ (textThenSpaces (userL m) else 5)
     ∷ (textThenSpaces (passwordL m) else 5)
     ∷ (textThenSpaces (sessionL m) else 5)
+    ∷ (not (blank (userL m)) else 6)
     ∷ []
 
 unfoldable pub readL : List ℕ → Verdict Message

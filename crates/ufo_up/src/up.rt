@@ -70,6 +70,9 @@ fn read_l(m: &[u8], next: usize) -> Up
     if !text::is_text_then_spaces(session) {
         return Up::Refused(refusal::FORM);
     }
+    if text::is_blank(user) {
+        return Up::Refused(refusal::ABSENT);
+    }
     Up::Login {
         user: names::get_user(user, 0),
         password: Password(names::get_name(password, 0)),

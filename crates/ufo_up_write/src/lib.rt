@@ -45,6 +45,9 @@ pub fn write_login(user: User, password: Password, session: Name, out: &mut [u8]
     if !text::is_name_then_spaces(session) {
         return Written::Refused(refusal::FORM);
     }
+    if text::is_blank_user(user) {
+        return Written::Refused(refusal::ABSENT);
+    }
     if out.len() < 29 {
         return Written::Refused(refusal::ROOM);
     }

@@ -10,7 +10,7 @@ pub const UNKNOWN_TYPE: u8 = 3;
 pub const FRAMING: u8 = 4;
 // Padding, alphabet, reason code, leading zero, header length.
 pub const FORM: u8 = 5;
-// Blank or zero where a number must stand, or a blank session.
+// Blank or zero where a number must stand; no session in an acceptance or a record, no user in a login.
 pub const ABSENT: u8 = 6;
 // A number above its bound.
 pub const BOUND: u8 = 7;

@@ -1,14 +1,16 @@
 //! The cases of every function of the C face.
 
+mod adding;
 mod pieces;
 mod record;
 
+pub use adding::ToAdd;
 pub use pieces::fed;
 pub use record::{taken, ToTake};
 
 use crate::both::{blank, both, Agreed, Difference};
 use crate::dice::Dice;
-use crate::limits::{MEMX, SOUP, TCP, UFO};
+use crate::limits::{MEMX, TCP, UFO};
 use crate::make;
 use crate::twin::Twin;
 use crate::Case;
@@ -29,7 +31,7 @@ pub const FUNCTIONS: [(&str, Case); 30] = [
     ("hp_soup_write", soup_write),
     ("hp_ufo_write_down", ufo_write_down),
     ("hp_ufo_write_message", ufo_write_message),
-    ("hp_ufo_add_message", ufo_add_message),
+    ("hp_ufo_add_message", adding::add_message),
     ("hp_memx_write", memx_write),
     ("hp_soup_take", pieces::take),
     ("hp_tcp_read", tcp_read),
@@ -59,15 +61,14 @@ fn room(needed: u64, dice: &mut Dice) -> Vec<u8> {
         0 => dice.below(needed + 1),
         1 => needed.saturating_sub(1),
         2 => needed + 1,
-        3 => needed + 40,
+        // what is refused needs none, but here a packet without a body would have room
+        3 => needed + FIXED,
         _ => needed,
     })
 }
 
 fn soup_read(dice: &mut Dice) -> Result<u64, Difference> {
-    let mut packet = make::soup(dice);
-    make::damage(&mut packet, SOUP, dice);
-    soup_both_ways(&packet)
+    soup_both_ways(&make::soup_to_read(dice))
 }
 
 /// Reads a Soup packet by both desks; what they take they write again with the same bytes. Says
@@ -104,8 +105,7 @@ fn ufo_read_down(dice: &mut Dice) -> Result<u64, Difference> {
 }
 
 fn ufo_read_up(dice: &mut Dice) -> Result<u64, Difference> {
-    let (mut packet, _) = make::ufo_up(dice);
-    make::damage(&mut packet, UFO, dice);
+    let (packet, _) = make::ufo_up_to_read(dice);
     both!(hp_ufo_read_up(bytes); lent bytes = &packet).map(Agreed::refusal)
 }
 
@@ -165,21 +165,8 @@ fn behind(bytes: &[u8], count: usize) -> &[u8] {
     &bytes[count.min(bytes.len())..]
 }
 
-/// A place in some bytes: mostly one of those given.
-fn place(places: &[u64], length: usize, dice: &mut Dice) -> u64 {
-    match dice.below(8) {
-        0 => make::number(dice),
-        1 => make::near(length as u64, dice),
-        2 => dice.below(length + 1) as u64,
-        _ if places.is_empty() => 0,
-        _ => dice.pick(places),
-    }
-}
-
 fn ufo_read_message(dice: &mut Dice) -> Result<u64, Difference> {
-    let (mut packet, places) = make::ufo_up(dice);
-    make::damage(&mut packet, UFO, dice);
-    let place = place(&places, packet.len(), dice);
+    let (packet, place) = make::ufo_up_to_read(dice);
     both!(hp_ufo_read_message(bytes, place); lent bytes = &packet).map(Agreed::refusal)
 }
 
@@ -194,7 +181,7 @@ fn next_block(dice: &mut Dice) -> Result<u64, Difference> {
         bytes.extend(make::long_blocks(MEMX, dice).1);
     }
     make::damage(&mut bytes, MEMX, dice);
-    let place = place(&places, bytes.len(), dice);
+    let place = make::place(&places, bytes.len(), dice);
     both!(hp_next_block(lent, place); lent lent = &bytes).map(Agreed::refusal)
 }
 
@@ -210,11 +197,7 @@ macro_rules! writing {
 }
 
 fn soup_write(dice: &mut Dice) -> Result<u64, Difference> {
-    let (mut fields, mut body) = make::to_write(b"+SUHZROJAL", b"+SU", true, SOUP, dice);
-    fields.number = make::decimal_number(dice);
-    if !dice.one_in(4) {
-        make::without_linefeeds(&mut body);
-    }
+    let (fields, body) = make::soup_to_write(dice);
     writing!(hp_soup_write, fields, body, dice)
 }
 
@@ -224,27 +207,8 @@ fn ufo_write_down(dice: &mut Dice) -> Result<u64, Difference> {
 }
 
 fn ufo_write_message(dice: &mut Dice) -> Result<u64, Difference> {
-    let (fields, body) = make::to_write(b"LTTURO", b"U", false, UFO, dice);
+    let (fields, body) = make::ufo_message_to_write(dice);
     writing!(hp_ufo_write_message, fields, body, dice)
-}
-
-fn ufo_add_message(dice: &mut Dice) -> Result<u64, Difference> {
-    let (fields, body) = make::to_write(b"LTTURO", b"U", false, UFO, dice);
-    let packet = make::ufo_begun(body.len(), UFO, dice);
-    let mut ample = [&packet[..], &[0; UFO]].concat();
-    let used = packet.len() as u64;
-    let needed = plain::hp_ufo_add_message(fields.twin(), &body, &mut ample, used).bytes;
-    let mut out = room(needed.max(used), dice);
-    let there = packet.len().min(out.len());
-    out[..there].copy_from_slice(&packet[..there]);
-    let used = match dice.below(16) {
-        0 => make::number(dice),
-        1 => make::near(used, dice),
-        2 => make::near(out.len() as u64, dice),
-        _ => used,
-    };
-    both!(hp_ufo_add_message(fields, body, out, used); lent body = &body; room out = out)
-        .map(Agreed::refusal)
 }
 
 fn memx_write(dice: &mut Dice) -> Result<u64, Difference> {

@@ -13,7 +13,7 @@ mod smallest;
 pub mod twin;
 
 pub use both::{Agreed, Difference};
-pub use cases::{fed, taken, ToTake, FUNCTIONS};
+pub use cases::{fed, taken, ToAdd, ToTake, FUNCTIONS};
 pub use cases::{memx_both_ways, memx_written, soup_both_ways, soup_written};
 
 use dice::Dice;

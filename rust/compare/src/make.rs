@@ -53,6 +53,17 @@ pub fn near(number: u64, dice: &mut Dice) -> u64 {
     }
 }
 
+/// A place in so many bytes: mostly one of those given.
+pub fn place(places: &[u64], length: usize, dice: &mut Dice) -> u64 {
+    match dice.below(8) {
+        0 => number(dice),
+        1 => near(length as u64, dice),
+        2 => dice.below(length + 1) as u64,
+        _ if places.is_empty() => 0,
+        _ => dice.pick(places),
+    }
+}
+
 /// A flag: 0 or 1, and seldom another byte.
 pub fn flag(dice: &mut Dice) -> u8 {
     if dice.one_in(12) {

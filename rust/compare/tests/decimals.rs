@@ -5,9 +5,10 @@ use compare::{soup_both_ways, soup_written, Difference};
 use hinurapay::flat::{hp_packet, hp_soup_read};
 use std::collections::{BTreeMap, BTreeSet};
 
-/// The two packets that have a number, up to there.
+/// The two packets that have a number, up to there, and one of them without a user.
 const ACCEPTED: &str = "A      8841";
 const LOGIN: &str = "Lme    secret          8841";
+const NAMELESS: &str = "L      secret          8841";
 
 /// Numbers of 0, 1, 2, 10, 19 and 20 digits.
 const NUMBERS: [&str; 6] = [
@@ -50,9 +51,13 @@ fn read(start: &str) -> BTreeMap<u64, usize> {
     counted(fields.map(|number| soup_both_ways(&packet(start, number))))
 }
 
-/// Every lawful number of the list, written in a packet that begins so.
-fn written(start: &str) -> BTreeMap<u64, usize> {
-    let fields = hp_soup_read(&packet(start, spelt(1))).packet;
+/// The fields of a packet that begins so.
+fn beginning(start: &str) -> hp_packet {
+    hp_soup_read(&packet(start, spelt(1))).packet
+}
+
+/// Every lawful number of the list, written with these fields in a packet that begins so.
+fn written(fields: hp_packet, start: &str) -> BTreeMap<u64, usize> {
     let numbers = DECIMAL_NUMBERS.iter();
     counted(numbers.map(|&number| {
         let fields = hp_packet { number, ..fields };
@@ -67,10 +72,22 @@ fn every_field_is_read_alike() {
     assert_eq!(read(ACCEPTED), BTreeMap::from(accepted));
     let login = [(0, 1293), (5, 32_547), (6, 1), (7, 123), (8, 119)];
     assert_eq!(read(LOGIN), BTreeMap::from(login));
+    // all that would be taken, the blank one, and those that are too great
+    let nameless = [(5, 32_547), (6, 1293 + 1 + 123), (8, 119)];
+    assert_eq!(read(NAMELESS), BTreeMap::from(nameless));
 }
 
 #[test]
 fn every_number_is_written_alike() {
-    assert_eq!(written(ACCEPTED), BTreeMap::from([(0, 919), (6, 1)]));
-    assert_eq!(written(LOGIN), BTreeMap::from([(0, 920)]));
+    let (accepted, login) = (beginning(ACCEPTED), beginning(LOGIN));
+    let nameless = hp_packet {
+        user: *b"      ",
+        ..login
+    };
+    assert_eq!(
+        written(accepted, ACCEPTED),
+        BTreeMap::from([(0, 919), (6, 1)])
+    );
+    assert_eq!(written(login, LOGIN), BTreeMap::from([(0, 920)]));
+    assert_eq!(written(nameless, NAMELESS), BTreeMap::from([(6, 920)]));
 }

@@ -4,7 +4,9 @@ use compare::dice::Dice;
 use compare::limits::{MEMX, SOUP, TCP, UFO};
 use compare::make;
 use hinurapay::memx_tcp::{self, LoginReject, Mode, Packet, ReplayReject, StreamReject};
-use hinurapay::{flat, memx, soup, ufo, Area, Record, Refusal, Sequence, SessionId};
+use hinurapay::{
+    flat, memx, soup, ufo, Area, Name, Password, Record, Refusal, Sequence, SessionId, User,
+};
 
 const CASES: u64 = 20_000;
 
@@ -82,6 +84,53 @@ fn ufo_packets_from_the_client_are_put_together_again() {
         },
         |packet| flat::hp_ufo_read_up(packet).refusal,
     );
+}
+
+const SOMEBODY: User = User(*b"u     ");
+const NOBODY: User = User(*b"      ");
+
+#[test]
+fn a_soup_login_names_its_user() {
+    let bytes = format!("L{:<6}{:10}{:10}{:>20}\n", 'u', "", "", 7).into_bytes();
+    let login = |user| soup::Packet::Login {
+        user,
+        password: Password(*b"          "),
+        session: Name(*b"          "),
+        next: Sequence(7),
+    };
+    let mut out = [0xee; 48];
+    assert_eq!(soup::write(&login(NOBODY), &mut out), Err(Refusal::Blank));
+    assert_eq!(out, [0xee; 48]);
+    assert_eq!(soup::write(&login(NOBODY), &mut []), Err(Refusal::Blank));
+    assert_eq!(soup::write(&login(SOMEBODY), &mut out), Ok(48));
+    assert_eq!(out[..], bytes);
+    assert_eq!(soup::read(&bytes), Ok(login(SOMEBODY)));
+    out[1] = b' ';
+    assert_eq!(soup::read(&out), Err(Refusal::Blank));
+}
+
+#[test]
+fn a_ufo_login_names_its_user() {
+    let bytes = format!("\0\x01R\0\x1bL{:<6}{:10}{:10}", 'u', "", "").into_bytes();
+    let login = |user| ufo::Up::Login {
+        user,
+        password: Password(*b"          "),
+        session: Name(*b"          "),
+    };
+    let mut out = [0xee; 32];
+    let alone = ufo::write_message(&login(NOBODY), &mut out);
+    assert_eq!((alone, out), (Err(Refusal::Blank), [0xee; 32]));
+    let mut upstream = ufo::Upstream::over(&mut out);
+    upstream.add(&ufo::Up::Heartbeat).unwrap();
+    assert_eq!(upstream.add(&login(NOBODY)), Err(Refusal::Blank));
+    assert_eq!(upstream.packet(), b"\0\x01R");
+    assert_eq!(out[3..], [0xee; 29]);
+    assert_eq!(ufo::write_message(&login(SOMEBODY), &mut out[3..]), Ok(29));
+    assert_eq!(out[..], bytes);
+    let messages = ufo::read_up(&bytes).unwrap();
+    assert!(messages.eq([ufo::Up::Heartbeat, login(SOMEBODY)]));
+    out[6] = b' ';
+    assert_eq!(ufo::read_up(&out).unwrap_err(), Refusal::Blank);
 }
 
 #[test]

@@ -10,6 +10,9 @@ const CASES: u64 = 4000;
 
 const ACCEPTED: &[u8] = b"A      8841                   1\n";
 
+/// A login that names no user.
+const NAMELESS: &[u8] = b"L      secret          8841                   1\n";
+
 /// Asks that what is handed out is what the flat face answered, and that the fields are the reader's.
 fn is_same(handed: &Handed<'_>, answer: &hp_piece) {
     assert_eq!(handed.bytes.len() as u64, answer.bytes);
@@ -60,6 +63,7 @@ fn a_session_is_read_with_its_numbers() {
         ACCEPTED,
         b"Sone\nH\nStwo\nJX\n",
         ACCEPTED,
+        NAMELESS,
         b"S\n",
     ]
     .concat();
@@ -84,6 +88,7 @@ fn a_session_is_read_with_its_numbers() {
         (Some(2), Ok(b"two".to_vec())),
         (None, Err(Refusal::Form)),
         (None, Err(Refusal::NotForRecord)),
+        (None, Err(Refusal::Blank)),
         (Some(3), Ok(b"".to_vec())),
     ];
     assert_eq!(seen, expected);

@@ -36,9 +36,9 @@ pub enum Packet<'a> {
     },
     /// `L`: a login.
     Login {
-        /// Who.
+        /// Who; may not be blank.
         user: User,
-        /// Proved by this.
+        /// Proved by this, or blank.
         password: Password,
         /// The session wanted, or blank.
         session: Name,
@@ -94,6 +94,24 @@ pub(crate) fn of<'a>(fields: &hp_packet, bytes: &'a [u8]) -> Packet<'a> {
 /// let mut out = [0; 8];
 /// assert_eq!(write(&Packet::Sequenced(b"hello"), &mut out), Ok(7));
 /// assert_eq!(&out[..7], b"Shello\n");
+/// ```
+///
+/// A login names its user; password and session may be blank.
+///
+/// ```
+/// use hinurapay::soup::{write, Packet};
+/// use hinurapay::{Name, Password, Refusal, Sequence, User};
+///
+/// let login = |user: &[u8; 6]| Packet::Login {
+///     user: User(*user),
+///     password: Password([b' '; 10]),
+///     session: Name([b' '; 10]),
+///     next: Sequence(0),
+/// };
+/// let mut out = [0; 48];
+/// assert_eq!(write(&login(b"      "), &mut out), Err(Refusal::Blank));
+/// assert_eq!(out, [0; 48]);
+/// assert_eq!(write(&login(b"desk7 "), &mut out), Ok(48));
 /// ```
 pub fn write(packet: &Packet<'_>, out: &mut [u8]) -> Result<usize, Refusal> {
     let mut fields = hp_packet::default();

@@ -48,9 +48,9 @@ pub enum Down<'a> {
 pub enum Up<'a> {
     /// `L`: a login.
     Login {
-        /// Who.
+        /// Who; may not be blank.
         user: User,
-        /// Proved by this.
+        /// Proved by this, or blank.
         password: Password,
         /// The session wanted, or blank.
         session: Name,

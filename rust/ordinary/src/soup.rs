@@ -46,9 +46,9 @@ pub enum Packet<'a> {
     EndOfSession,
     /// `L`, from the client: asks to be logged in.
     Login {
-        /// Who asks.
+        /// Who asks; may not be blank.
         user: User,
-        /// The user's password.
+        /// The user's password, which may be blank.
         password: Password,
         /// The session wanted, blank for the one that is running.
         session: Name,
@@ -139,12 +139,7 @@ fn read_fields(kind: u8, payload: &[u8]) -> Result<Packet<'_>, Refusal> {
             let session = take(&mut rest)?;
             let number = rest.first_chunk().ok_or(Refusal::Framing)?;
             text::padded_left(&session)?;
-            let next = decimal::read(number);
-            // a blank session is told after a number of bad form, but before one that is too great
-            if next != Err(Refusal::Form) {
-                text::not_blank(&session)?;
-            }
-            match next? {
+            match named_number(&session, number)? {
                 0 => Err(Refusal::Blank),
                 next => Ok(Packet::Accepted {
                     session: Name(session),
@@ -160,7 +155,7 @@ fn read_fields(kind: u8, payload: &[u8]) -> Result<Packet<'_>, Refusal> {
             text::padded_right(&user)?;
             text::padded_right(&password)?;
             text::padded_left(&session)?;
-            let next = decimal::read(number)?;
+            let next = named_number(&user, number)?;
             Ok(Packet::Login {
                 user: User(user),
                 password: Password(password),
@@ -170,6 +165,17 @@ fn read_fields(kind: u8, payload: &[u8]) -> Result<Packet<'_>, Refusal> {
         }
         _ => Err(Refusal::UnknownType),
     }
+}
+
+/// The number in a packet whose session or user may not be blank. A blank one is told after a number
+/// of bad form, but before one that is too great: 5, 6, 7.
+#[inline]
+fn named_number<const N: usize>(name: &[u8; N], number: &[u8; 20]) -> Result<u64, Refusal> {
+    let number = decimal::read(number);
+    if number != Err(Refusal::Form) {
+        text::not_blank(name)?;
+    }
+    number
 }
 
 /// Writes a packet onto the slip and says how many bytes it has. It is refused as a reader would

@@ -53,6 +53,7 @@ fn specimen(protocol: usize, dice: &mut Dice) -> Vec<u8> {
     let lent: Vec<&[u8]> = messages.iter().map(Vec::as_slice).collect();
     let first = dice.pick(&[0, 1, 6, u32::MAX - 3, u32::MAX - 1, u32::MAX]);
     let text = dice.pick(&["", "8841", "ABCdefghij", "a b", "x"]);
+    let user = dice.pick(&["user1", "user1", "u", ""]);
     let digits = dice.pick(&[
         "",
         "0",
@@ -74,7 +75,7 @@ fn specimen(protocol: usize, dice: &mut Dice) -> Vec<u8> {
         },
         1 => {
             let message = match dice.below(5) {
-                0 => format!("L{:<6}{text:<10}{text:<10}", "user1").into_bytes(),
+                0 => format!("L{user:<6}{text:<10}{text:<10}").into_bytes(),
                 1 => {
                     let count = dice.pick(&[0, 1, u16::MAX]);
                     [b"T", &first.to_be_bytes()[..], &count.to_be_bytes()].concat()
@@ -97,7 +98,7 @@ fn specimen(protocol: usize, dice: &mut Dice) -> Vec<u8> {
         }
         _ => match dice.below(7) {
             0 => soup_a(text, digits),
-            1 => soup_l("me", text, text, digits),
+            1 => soup_l(user, text, text, digits),
             2 => vec![b'J', dice.pick(b"ASB\n"), b'\n'],
             3 => common::soup(dice.pick(b"HZRO"), b""),
             _ => common::soup(dice.pick(b"+SU"), &lent.concat()),

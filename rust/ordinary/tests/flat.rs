@@ -88,6 +88,7 @@ fn soup_is_read() {
     assert_eq!(hp_soup_read(b""), no(1));
     assert_eq!(hp_soup_read(b"J\n\n"), no(8));
     assert_eq!(hp_soup_read(&soup_a("", "42")), no(6));
+    assert_eq!(hp_soup_read(&soup_l("", "secret", "8841", "42")), no(6));
 }
 
 #[test]
@@ -215,6 +216,7 @@ fn a_message_is_read_only_from_a_packet_that_is_read() {
         (blocks(&[b"R", b"X"]), 3),
         (b"\0\x01R\0".to_vec(), 4),
         (blocks(&[b"R", b"T\0\0\0\0\0\x01"]), 6),
+        (blocks(&[b"R", b"L      password  8841      "]), 6),
     ] {
         assert_eq!(hp_ufo_read_up(&packet), no(refusal));
         assert_eq!(hp_ufo_read_message(&packet, 0), no(refusal));
@@ -581,6 +583,39 @@ fn a_number_that_its_field_cannot_hold_is_7_in_its_turn() {
     }
 }
 
+/// A login that names no user, for this session.
+fn nameless(name: &[u8; 10]) -> hp_packet {
+    hp_packet {
+        user: *b"      ",
+        password: *b"secret    ",
+        name: *name,
+        ..kind(b'L')
+    }
+}
+
+#[test]
+fn a_nameless_login_is_6_in_its_turn() {
+    let (left, right) = (nameless(b"      8841"), nameless(b"8841      "));
+    let cases: [(Writer, hp_packet, usize, u64); 8] = [
+        (hp_soup_write, left, 4051, 2),
+        (hp_soup_write, left, 4050, 4),
+        (hp_soup_write, right, 0, 5),
+        (hp_soup_write, left, 0, 6),
+        (hp_ufo_write_message, right, 1444, 2),
+        (hp_ufo_write_message, right, 1443, 4),
+        (hp_ufo_write_message, left, 0, 5),
+        (hp_ufo_write_message, right, 0, 6),
+    ];
+    for (write, fields, body, refusal) in cases {
+        for room in [0, 28, 47, 100] {
+            let mut out = vec![0xee; room];
+            let answer = write(fields, &vec![b'!'; body], &mut out);
+            assert_eq!(answer, wrote(refusal, 0), "{fields:?}, room {room}");
+            assert_eq!(out, vec![0xee; room]);
+        }
+    }
+}
+
 /// Adds a message behind the output's first `used` bytes, which must all be as before on a refusal.
 fn add(fields: hp_packet, body: &[u8], out: &mut [u8], used: u64) -> hp_wrote {
     let before = out.to_vec();
@@ -631,6 +666,9 @@ fn what_adding_refuses_comes_in_order() {
         (kind(b'L'), 0, 5),
         (wide, 61, 4),
         (wide, 62, 2),
+        (nameless(b"8841      "), 41, 4),
+        (nameless(b"      8841"), 0, 5),
+        (nameless(b"8841      "), 0, 6),
         (nought, 0, 6),
         (wide, 0, 7),
         (kind(b'U'), 68, 2),

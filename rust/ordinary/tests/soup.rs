@@ -2,7 +2,7 @@
 
 mod common;
 
-use common::{number, soup, soup_a, soup_l, written};
+use common::{number, soup, soup_a, soup_l, written, USERS};
 use ordinary::kinds::{Name, Password, Reason, Sequence, User};
 use ordinary::soup::{read, write, Packet};
 
@@ -39,7 +39,6 @@ fn what_is_taken() {
             next: Sequence(0),
         })
     );
-    assert_eq!(number(read(&soup_l("", "", "", "1"))), 0);
 }
 
 #[test]
@@ -109,6 +108,8 @@ fn what_a_reader_refuses() {
         (&soup_a("8841", ""), 6),
         (&soup_a("8841", "0"), 6),
         (&soup_l("me", "secret", "8841", ""), 6),
+        (&soup_l("", "secret", "8841", "1"), 6),
+        (&soup_l("", "", "", "0"), 6),
         (&soup_a("8841", "18446744073709551616"), 7),
         (&soup_a("8841", &twenty_nines), 7),
         (&soup_l("me", "secret", "8841", "20000000000000000000"), 7),
@@ -130,10 +131,61 @@ fn the_order_is_by_number_over_the_whole_packet() {
         (soup_l(" me", "secret", "8841", ""), 5),
         (soup_l("me", "secret", "8 41", high), 5),
         (soup_l("me", " secret", "88\n1", ""), 8),
+        (soup_l("", "secret", "8841", ""), 6),
+        (soup_l("", "secret", "8841", high), 6),
+        (soup_l("", "secret", "8841", "1x"), 5),
+        (soup_l("", "se-cret", "8841", "1"), 5),
+        (soup_l("", "secret", "8841 ", "1"), 5),
+        (soup_l("", "secret", "8841", "1\n"), 8),
+        (soup_l("", "secret", "8841", "1")[..47].to_vec(), 4),
     ] {
         assert_eq!(number(read(&packet)), refusal, "{packet:?}");
     }
 }
+
+/// Passwords, sessions and numbers: lawful, blank, of bad form, with a linefeed, or too great.
+const PASSWORDS: [&str; 6] = ["secret", "", " secret", "se cret", "se-cret", "se\ncret"];
+const SESSIONS: [&str; 6] = ["8841", "", "8841 ", "88 41", "88-41", "88\n41"];
+const NUMBERS: [&str; 9] = [
+    "1",
+    "0",
+    "18446744073709551615",
+    "",
+    "18446744073709551616",
+    "99999999999999999999",
+    "01",
+    "1 ",
+    "1x",
+];
+
+#[test]
+fn a_blank_user_is_6_where_another_would_be_taken_or_the_number_be_too_great() {
+    let mut seen = [0; 9];
+    for password in PASSWORDS {
+        for session in SESSIONS {
+            for digits in NUMBERS {
+                let of = |user| number(read(&soup_l(user, password, session, digits)));
+                let named = of("u");
+                let nameless = if matches!(named, 0 | 7) { 6 } else { named };
+                assert_eq!(of(""), nameless, "{password:?} {session:?} {digits:?}");
+                seen[usize::from(named)] += 1;
+            }
+        }
+    }
+    // two passwords, two sessions; three numbers that are taken, one blank, two too great
+    assert_eq!(seen, [12, 0, 0, 0, 0, 201, 4, 8, 99]);
+}
+
+#[test]
+fn a_user_is_blank_only_if_all_of_it_is() {
+    for (user, refusal) in USERS {
+        let packet = soup_l(user, "", "", "0");
+        assert_eq!(number(read(&packet)), refusal, "{user:?}");
+    }
+}
+
+/// A blank user.
+const NOBODY: &[u8; 6] = b"      ";
 
 fn write_out(packet: Packet) -> Result<Vec<u8>, u8> {
     written(|slip| write(&packet, slip))
@@ -173,6 +225,11 @@ fn what_a_writer_refuses() {
         (login(b"me    ", b"secret    ", b"8841      "), 5),
         (accepted(b"          ", 1), 6),
         (accepted(b"      8841", 0), 6),
+        (login(NOBODY, b"se\ncret   ", b"8841      "), 8),
+        (login(NOBODY, b"se-cret   ", b"      8841"), 5),
+        (login(NOBODY, b"secret    ", b"8841      "), 5),
+        (login(NOBODY, b"secret    ", b"      8841"), 6),
+        (login(NOBODY, b"          ", b"          "), 6),
     ];
     for (packet, refusal) in cases {
         assert_eq!(write_out(packet), Err(refusal), "{packet:?}");
@@ -195,7 +252,7 @@ fn what_is_read_is_written_again() {
         soup_a("8841", "1"),
         soup_a("ABCDEFghij", "18446744073709551615"),
         soup_l("me", "secret", "8841", "0"),
-        soup_l("", "", "", "10000000000000000000"),
+        soup_l("u", "", "", "10000000000000000000"),
         soup_l("sixsix", "tententent", "sessionten", "7"),
     ] {
         assert_eq!(write_out(read(&packet).unwrap()), Ok(packet));

@@ -22,6 +22,7 @@ fn mixed() -> Vec<u8> {
         &overlong[..4098],
         b"\nS\n\n",
         &soup_l("me", "secret", "8841", "0"),
+        &soup_l("", "secret", "8841", "0"),
         b"Unfinished",
     ]
     .concat()
@@ -47,6 +48,7 @@ fn handed_out() -> Vec<Out> {
         refused(b"S\n", 7),
         refused(b"\n", 3),
         taken(&soup_l("me", "secret", "8841", "0"), 0),
+        refused(&soup_l("", "secret", "8841", "0"), 6),
     ]
 }
 
@@ -112,7 +114,7 @@ fn line(dice: &mut Dice) -> Vec<u8> {
     let digits = dice.pick(&["1", "0", "42", "x", "18446744073709551614"]);
     match dice.below(8) {
         0 => soup_a(dice.pick(&["8841", "8841", "", "8 1"]), digits),
-        1 => soup_l("me", "secret", "8841", digits),
+        1 => soup_l(dice.pick(&["me", "me", ""]), "secret", "8841", digits),
         2 => soup(dice.pick(b"HZROJX"), &b"ASx"[..dice.below(3)]),
         3 => b"\n".to_vec(),
         _ => soup(

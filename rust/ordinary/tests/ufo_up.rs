@@ -2,11 +2,14 @@
 
 mod common;
 
-use common::{blocks, number, written};
+use common::{blocks, number, written, USERS};
 use ordinary::kinds::{Name, Password, Sequence, User};
 use ordinary::ufo::{read_message, read_up, write_message, Packet, Up};
 
 const LOGIN: &[u8] = b"Luser1 password  8841      ";
+
+/// A login that names no user, and is lawful otherwise.
+const NAMELESS: &[u8] = b"L      password  8841      ";
 
 #[test]
 fn a_packet_of_every_message() {
@@ -39,9 +42,11 @@ fn a_packet_of_every_message() {
 }
 
 #[test]
-fn blank_text_is_lawful_upstream() {
-    let blank = [b"L", &[b' '; 26][..]].concat();
-    assert_eq!(read_up(&blocks(&[&blank])), Ok(1));
+fn password_and_session_may_be_blank_upstream_but_not_the_user() {
+    for (user, refusal) in USERS {
+        let login = format!("L{user:<6}{:20}", "").into_bytes();
+        assert_eq!(number(read_up(&blocks(&[&login]))), refusal, "{user:?}");
+    }
 }
 
 #[test]
@@ -71,8 +76,13 @@ fn what_the_packet_reader_refuses() {
         (&blocks(&[b"Luser1  password 8841      "]), 5),
         (&blocks(&[b"Luser1 password        8841"]), 5),
         (&blocks(&[b"Luser1 pass-word 8841      "]), 5),
+        (&blocks(&[b"L      pass-word 8841      "]), 5),
+        (&blocks(&[b"L       password 8841      "]), 5),
+        (&blocks(&[b"L      password        8841"]), 5),
         (&blocks(&[b"T\0\0\0\0\0\x01"]), 6),
         (&blocks(&[b"T\0\0\0\x01\0\0"]), 6),
+        (&blocks(&[NAMELESS]), 6),
+        (&blocks(&[&NAMELESS[..26]]), 4),
     ];
     for (packet, refusal) in cases {
         assert_eq!(number(read_up(packet)), *refusal, "{packet:?}");
@@ -88,6 +98,10 @@ fn lengths_come_first_over_the_whole_packet_then_message_by_message() {
     assert_eq!(number(read_up(&nought)), 6);
     let reversed = blocks(&[b"X", b"T\0\0\0\0\0\x01"]);
     assert_eq!(number(read_up(&reversed)), 3);
+    assert_eq!(number(read_up(&blocks(&[LOGIN, NAMELESS, b"X"]))), 6);
+    assert_eq!(number(read_up(&blocks(&[LOGIN, b"X", NAMELESS]))), 3);
+    let cut_behind = [&blocks(&[NAMELESS])[..], cut].concat();
+    assert_eq!(number(read_up(&cut_behind)), 4);
     assert_eq!(number(read_up(&blocks(&[b"R", b"R ", b"X"]))), 4);
 }
 
@@ -139,6 +153,8 @@ fn the_message_reader_refuses_as_the_packet_reader_whatever_the_place() {
         (&blocks(&[b"R", b"O "]), 4),
         (&blocks(&[b"R", b"L user password  8841      "]), 5),
         (&blocks(&[b"R", nought, b"X"]), 6),
+        (&blocks(&[LOGIN, NAMELESS]), 6),
+        (&blocks(&[NAMELESS, LOGIN]), 6),
     ];
     for (packet, refusal) in cases {
         assert_eq!(number(read_up(packet)), *refusal, "{packet:?}");
@@ -170,13 +186,16 @@ fn request(first: u64, count: u16) -> Up<'static> {
     Up::Request { first, count }
 }
 
-#[test]
-fn what_a_writer_refuses() {
-    let login = |user: &[u8; 6], password: &[u8; 10], session: &[u8; 10]| Up::Login {
+fn login(user: &[u8; 6], password: &[u8; 10], session: &[u8; 10]) -> Up<'static> {
+    Up::Login {
         user: User(*user),
         password: Password(*password),
         session: Name(*session),
-    };
+    }
+}
+
+#[test]
+fn what_a_writer_refuses() {
     let cases = [
         (Up::Unsequenced(&[0; 1470]), 2),
         (Up::Unsequenced(&[0; 70_000]), 2),
@@ -184,6 +203,11 @@ fn what_a_writer_refuses() {
         (login(b"user1 ", b"pass word ", b"          "), 5),
         (login(b"user1 ", b"          ", b"      8841"), 5),
         (login(b"user1\n", b"          ", b"8841      "), 5),
+        (login(b"      ", b"pass-word ", b"8841      "), 5),
+        (login(b"      ", b" password ", b"8841      "), 5),
+        (login(b"      ", b"password  ", b"      8841"), 5),
+        (login(b"      ", b"password  ", b"8841      "), 6),
+        (login(b"      ", b"          ", b"          "), 6),
         (request(0, 1), 6),
         (request(1, 0), 6),
         (request(1 << 32, 0), 6),
@@ -236,6 +260,7 @@ fn a_packet_is_put_together_message_by_message() {
 #[test]
 fn what_adding_refuses() {
     let nothing = request(0, 1);
+    let nameless = login(b"      ", b"password  ", b"8841      ");
     let over = Up::Unsequenced(&[0; 1470]);
     let full = blocks(&[&[b'U'; 1470]]);
     let cases: &[(&[u8], usize, Up, u8)] = &[
@@ -250,6 +275,7 @@ fn what_adding_refuses() {
         (b"\0\x02R ", 4, nothing, 4),
         (&blocks(&[b"L user password  8841      "]), 29, nothing, 5),
         (&blocks(&[b"T\0\0\0\0\0\x01"]), 9, over, 6),
+        (&blocks(&[NAMELESS]), 29, over, 6),
         (&[0; 1473], 1473, nothing, 2),
         // the whole
         (b"", 0, over, 2),
@@ -257,6 +283,10 @@ fn what_adding_refuses() {
         (&full, 1472, nothing, 2),
         (b"\0\x01R", 3, nothing, 6),
         (b"\0\x01R", 3, request(1 << 32, 1), 7),
+        (&full, 1472, nameless, 2),
+        (b"", 0, nameless, 6),
+        (b"\0\x01R", 3, nameless, 6),
+        (&[&b"\0\x01R"[..], &[b'.'; 40]].concat(), 3, nameless, 6),
         // and then the room
         (b"\0\x01R", 3, Up::Unsequenced(&[0; 1466]), 9),
         (b"\0\x01R..", 3, Up::Logoff, 9),
@@ -288,7 +318,7 @@ fn what_is_read_is_written_again() {
     let longest = [b"U", &[0xff; 1469][..]].concat();
     let messages: &[&[u8]] = &[
         LOGIN,
-        b"L                          ",
+        b"Lu                         ",
         b"T\0\0\0\x01\0\x01",
         b"T\xff\xff\xff\xff\xff\xff",
         b"U",

@@ -1,11 +1,11 @@
 //! Packets, lawful and damaged, and what is to be written as one.
 
 use super::{
-    area, block, blocks, brimming, damage, decimal, few, length, long_blocks, near, number,
-    sound_record, text,
+    area, block, blocks, brimming, damage, decimal, decimal_number, few, length, long_blocks, near,
+    number, place, sound_record, text,
 };
 use crate::dice::Dice;
-use crate::limits::{MEMX, UFO};
+use crate::limits::{MEMX, SOUP, UFO};
 use hinurapay::flat::{hp_packet, hp_record};
 use hinurapay::memx::MOST_EXTRA;
 
@@ -138,6 +138,15 @@ pub fn ufo_up(dice: &mut Dice) -> (Vec<u8>, Vec<u64>) {
     (packet, places)
 }
 
+/// A UFO packet from the client to be read, at times damaged, and a place: mostly where a block begins,
+/// or began before the damage.
+pub fn ufo_up_to_read(dice: &mut Dice) -> (Vec<u8>, u64) {
+    let (mut packet, places) = ufo_up(dice);
+    damage(&mut packet, UFO, dice);
+    let place = place(&places, packet.len(), dice);
+    (packet, place)
+}
+
 /// What a message with so long a body is added to: nothing, a packet from the client, one with which
 /// it comes to about the limit, or any of them damaged.
 pub fn ufo_begun(body: usize, limit: usize, dice: &mut Dice) -> Vec<u8> {
@@ -184,6 +193,13 @@ pub fn soup(dice: &mut Dice) -> Vec<u8> {
         }
     };
     packet.push(b'\n');
+    packet
+}
+
+/// A Soup packet to be read, at times damaged.
+pub fn soup_to_read(dice: &mut Dice) -> Vec<u8> {
+    let mut packet = soup(dice);
+    damage(&mut packet, SOUP, dice);
     packet
 }
 
@@ -258,6 +274,21 @@ pub fn to_write(
         body.clear();
     }
     (fields, body)
+}
+
+/// A Soup packet to be written, and its body.
+pub fn soup_to_write(dice: &mut Dice) -> (hp_packet, Vec<u8>) {
+    let (mut fields, mut body) = to_write(b"+SUHZROJAL", b"+SU", true, SOUP, dice);
+    fields.number = decimal_number(dice);
+    if !dice.one_in(4) {
+        without_linefeeds(&mut body);
+    }
+    (fields, body)
+}
+
+/// A UFO message from the client to be written, and its data.
+pub fn ufo_message_to_write(dice: &mut Dice) -> (hp_packet, Vec<u8>) {
+    to_write(b"LTTURO", b"U", false, UFO, dice)
 }
 
 /// A MEMX-UDP packet to be written, the extra bytes of its header, and its body: no extra bytes, a

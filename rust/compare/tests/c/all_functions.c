@@ -88,6 +88,37 @@ static void soup(void) {
     CHECK(wrote(hp_soup_write(of_type('S'), HELLO, sizeof HELLO, out, 7), "Shello\n", 7));
 }
 
+/* the fields of a login with a blank password and no user */
+static hp_packet nameless(const char *session) {
+    hp_packet fields = of_type('L');
+    memset(fields.user, ' ', sizeof fields.user);
+    memset(fields.password, ' ', sizeof fields.password);
+    memcpy(fields.name, session, sizeof fields.name);
+    return fields;
+}
+
+/* a Soup login with a user of one letter, and the same without one */
+static void soup_login(void) {
+    uint8_t login[] = "Lu     " "          " "      8841" "                   7\n";
+    hp_packet fields = nameless("      8841");
+    fields.number = 7;
+    clear();
+    CHECK(turned_down(hp_soup_write(fields, NULL, 0, out, sizeof out), 6));
+    CHECK(turned_down(hp_soup_write(fields, NULL, 0, out, 0), 6)); /* before 9 */
+    CHECK(turned_down(hp_soup_write(fields, HELLO, sizeof HELLO, out, sizeof out), 4));
+    fields.user[0] = 'u';
+    CHECK(wrote(hp_soup_write(fields, NULL, 0, out, 48), login, 48));
+    hp_read read = hp_soup_read(login, 48);
+    CHECK(read.refusal == 0 && read.packet.type == 'L' && read.packet.number == 7 && read.packet.user[0] == 'u');
+    login[1] = ' ';
+    read = hp_soup_read(login, 48);
+    CHECK(read.refusal == 6 && read.packet.type == 0 && read.packet.number == 0 && read.packet.user[0] == 0);
+    memset(login + 27, '9', 20); /* above 2^64-1, which would be 7 */
+    CHECK(hp_soup_read(login, 48).refusal == 6);
+    login[46] = 'x';
+    CHECK(hp_soup_read(login, 48).refusal == 5);
+}
+
 /* the buffer of a stream, which holds FRESH wherever nothing was laid */
 enum { LONGEST = 4098 };
 static uint8_t buffer[LONGEST + 2];
@@ -160,6 +191,7 @@ static void refused_pieces(void) {
     CHECK(used_up(0, "Sab\n", 16) && used_up(1, "A      8841                   7\n", 16));
     CHECK(used_up(UINT64_MAX, "S\n", 7) && used_up(0, "A      884118446744073709551616\n", 7));
     CHECK(used_up(1, "\n", 3) && used_up(1, "Hx\n", 4) && used_up(1, "JX\n", 5) && used_up(1, "A                             7\n", 6));
+    CHECK(used_up(1, "L      secret          8841                   7\n", 6)); /* no user */
     keep("", 0);
     hp_piece fed = feed((hp_pieces){0, 0, UINT64_MAX - 1}, "S\n", 0);
     CHECK(fed.what == 1 && fed.number == UINT64_MAX - 1 && stands(fed.pieces, 0, 0, UINT64_MAX));
@@ -253,6 +285,27 @@ static void ufo_up(void) {
     CHECK(wrote(hp_ufo_write_message(fields, NULL, 0, out, sizeof out), packet, 9));
     CHECK(hp_ufo_add_message(of_type('R'), NULL, 0, out, 11, 9).refusal == 9 && laid(packet, 9));
     CHECK(wrote(hp_ufo_add_message(of_type('R'), NULL, 0, out, 12, 9), packet, 12));
+}
+
+/* a UFO login with a user of one letter, and the same without one, alone and behind a heartbeat */
+static void ufo_login(void) {
+    uint8_t packet[] = "\0\1R" "\0\33Lu     " "          " "8841      ";
+    hp_packet fields = nameless("8841      ");
+    clear();
+    CHECK(turned_down(hp_ufo_write_message(fields, NULL, 0, out, sizeof out), 6));
+    CHECK(turned_down(hp_ufo_write_message(fields, NULL, 0, out, 0), 6)); /* before 9 */
+    CHECK(wrote(hp_ufo_add_message(of_type('R'), NULL, 0, out, sizeof out, 0), packet, 3));
+    hp_wrote answer = hp_ufo_add_message(fields, NULL, 0, out, sizeof out, 3);
+    CHECK(answer.refusal == 6 && answer.bytes == 0 && laid(packet, 3));
+    fields.user[0] = 'u';
+    CHECK(wrote(hp_ufo_add_message(fields, NULL, 0, out, 32, 3), packet, 32));
+    CHECK(hp_ufo_read_up(packet, 32).packet.count == 2 && hp_ufo_read_message(packet, 32, 3).packet.user[0] == 'u');
+    packet[6] = ' ';
+    hp_read read = hp_ufo_read_up(packet, 32);
+    CHECK(read.refusal == 6 && read.packet.count == 0);
+    read = hp_ufo_read_message(packet, 32, 3);
+    CHECK(read.refusal == 6 && read.packet.type == 0 && read.packet.next == 0);
+    CHECK(hp_ufo_read_message(packet, 32, 0).refusal == 6); /* the heartbeat is not read either */
 }
 
 /* what is refused when a message is added: the output is as before, whatever it is */
@@ -717,11 +770,13 @@ static void lending(void) {
 
 int main(void) {
     soup();
+    soup_login();
     pieces();
     refused_pieces();
     overlong_piece();
     ufo_down();
     ufo_up();
+    ufo_login();
     adding();
     memx();
     longer_header();

@@ -12,9 +12,9 @@ use crate::text;
 pub enum Up<'a> {
     /// `L`: asks to be logged in.
     Login {
-        /// Who asks.
+        /// Who asks; may not be blank.
         user: User,
-        /// The user's password.
+        /// The user's password, which may be blank.
         password: Password,
         /// The session wanted, blank for the one that is running.
         session: Name,
@@ -58,7 +58,8 @@ impl Up<'_> {
             } => {
                 text::padded_right(&user.0)?;
                 text::padded_right(&password.0)?;
-                text::padded_right(&session.0)
+                text::padded_right(&session.0)?;
+                text::not_blank(&user.0)
             }
             Up::Request { first, count } => {
                 if first.0 == 0 || count == 0 {

@@ -153,6 +153,19 @@ pub fn soup_l(user: &str, password: &str, session: &str, number: &str) -> Vec<u8
     format!("L{user:<6}{password:<10}{session:>10}{number:>20}\n").into_bytes()
 }
 
+/// Users, and how a login with a blank password and session is refused for each (0: not at all).
+pub const USERS: [(&str, u8); 9] = [
+    ("", 6),
+    ("u", 0),
+    ("7", 0),
+    ("sixsix", 0),
+    (" u", 5),
+    ("     u", 5),
+    ("u u", 5),
+    ("-", 5),
+    ("\0", 5),
+];
+
 /// The number of a refusal, 0 if there is none.
 pub fn number<T>(answer: Result<T, Refusal>) -> u8 {
     answer.map_or_else(Refusal::number, |_| 0)

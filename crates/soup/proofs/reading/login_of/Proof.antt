@@ -43,23 +43,26 @@ returns c =
     let a = s .args in
     rw (login-together (now (a .user)) (now (a .password)) (now (a .session)) (now (a .digits)) (s .pre .3), failed (same b) (c .if1 .taken))
 
+is-blank-requires : tie.Need-is-blank-requires
+is-blank-requires c κs = search needs
+
 read-requires : tie.Need-read-requires
 read-requires c κs = search needs
 
 abbrev login-of : tie.After-read → Verdict Packet
 login-of c =
-    let a = c .before .before .before .before .before .before .before .before .before .args in
+    let a = c .before .before .before .before .before .before .before .before .before .before .args in
     loginOf (now (a .user)) (now (a .password)) (now (a .session)) (now (a .digits))
 
 abbrev login-by : tie.After-read → Number → Verdict Packet
 login-by c n =
-    let a = c .before .before .before .before .before .before .before .before .before .args in
+    let a = c .before .before .before .before .before .before .before .before .before .before .args in
     loginBy (now (a .user)) (now (a .password)) (now (a .session)) n
 
 -- they are, and the number was told as n
 told-as : (c : tie.After-read) (n : Number) → c .read .result ≡ n → login-of c ≡ login-by c n
 told-as c n e =
-    let i = c .before in
+    let i = c .before .before in
     let b = i .before in
     let s = b .before .before .before .before .before .before .before in
     let a = s .args in
@@ -74,8 +77,19 @@ enum-told-2 c = search needs
 enum-told-3 : tie.Need-enum-told-3
 enum-told-3 c = search needs
 
+returns-2 : tie.Need-returns-2
+returns-2 c =
+    let r = c .before .before .before in
+    rw (told-as r Over (c .before .enum-told3 .given .1), ← r .before .is-blank .ensures, c .if2 .taken)
+
 enum-known-n : tie.Need-enum-known-n
 enum-known-n c = search needs
+
+returns-3 : tie.Need-returns-3
+returns-3 c =
+    let m = c .before .before in
+    let r = m .before .before in
+    rw (told-as r (Is (m .n .given .0 .0)) (m .n .given .1), ← r .before .is-blank .ensures, c .if3 .taken)
 
 get-user-requires : tie.Need-get-user-requires
 get-user-requires c κs = search needs
@@ -86,20 +100,24 @@ get-name-requires c κs = search needs
 get-name-requires-2 : tie.Need-get-name-requires-2
 get-name-requires-2 c κs = search needs
 
-returns-2 : tie.Need-returns-2
-returns-2 c = rw (told-as (c .before .before) Misshapen (c .enum-told .given .1))
-
-returns-3 : tie.Need-returns-3
-returns-3 c = rw (told-as (c .before .before) Blank (c .enum-told2 .given .1))
-
 returns-4 : tie.Need-returns-4
-returns-4 c = rw (told-as (c .before .before) Over (c .enum-told3 .given .1))
+returns-4 c = rw (told-as (c .before .before) Misshapen (c .enum-told .given .1))
 
 returns-5 : tie.Need-returns-5
-returns-5 c =
+returns-5 c = rw (told-as (c .before .before) Blank (c .enum-told2 .given .1))
+
+returns-6 : tie.Need-returns-6
+returns-6 c =
+    let r = c .before .before .before in
+    rw (told-as r Over (c .before .enum-told3 .given .1), ← r .before .is-blank .ensures, c .if2 .left)
+
+returns-7 : tie.Need-returns-7
+returns-7 c =
     let u = c .before .before in
-    let m = u .before .before in
-    rw (told-as (m .before .before) (Is (m .n .given .0 .0)) (m .n .given .1), u .get-user .ensures, c .before .get-name .ensures, c .get-name2 .ensures)
+    let i = u .before in
+    let m = i .before .before in
+    let r = m .before .before in
+    rw (told-as r (Is (m .n .given .0 .0)) (m .n .given .1), ← r .before .is-blank .ensures, i .if3 .left, u .get-user .ensures, c .before .get-name .ensures, c .get-name2 .ensures)
 
 pub login-of-spec : {M : Type 1} → statement M
 login-of-spec =
@@ -109,15 +127,18 @@ login-of-spec =
     is-text-then-spaces-requires-2
     is-spaces-then-text-requires
     returns
+    is-blank-requires
     read-requires
     enum-told
     enum-told-2
     enum-told-3
+    returns-2
     enum-known-n
+    returns-3
     get-user-requires
     get-name-requires
     get-name-requires-2
-    returns-2
-    returns-3
     returns-4
-    returns-5)
+    returns-5
+    returns-6
+    returns-7)

@@ -1,6 +1,12 @@
+use Prim.Native.Nat.{ℕ}
+use mathlib.Core.Path.{_≡_}
+use mathlib.Core.List.{List}
+use mathlib.Core.Bool.{true}
+use denote.Ref.{now}
 use borrow.Author.Tests.{not-true, not-false}
-use Rattle.wire.proofs.Tests.{tests}
-use Rattle.ufo_up.specs.Up.{readL}
+use Rattle.wire.proofs.Tests.{tests, held}
+use Rattle.text.specs.Text.{textThenSpaces}
+use Rattle.ufo_up.specs.Up.{userL, passwordL, sessionL, readL}
 use borrow.Author.Needs.{needs}
 use Rattle.ufo_up.proofs.up.read_l.Statement.{statement}
 use Rattle.ufo_up.proofs.up.read_l.Tie as tie
@@ -63,6 +69,28 @@ returns-4 c =
     let a = b .before .before .before in
     rw (← a .before .is-text-then-spaces .ensures, not-false (a .before .is-text-then-spaces .result) (a .if2 .left), ← b .before .is-text-then-spaces2 .ensures, not-false (b .before .is-text-then-spaces2 .result) (b .if3 .left), ← c .before .is-text-then-spaces3 .ensures, not-true (c .before .is-text-then-spaces3 .result) (c .if4 .taken)) (search tests)
 
+abbrev message : tie.Else4 → List ℕ
+message c = now (c .before .before .before .before .before .before .before .before .before .before .before .args .m)
+
+-- the three texts are padded as they should be
+padded : (c : tie.Else4) → let m = message c in (textThenSpaces (userL m) ≡ true) × (textThenSpaces (passwordL m) ≡ true) × (textThenSpaces (sessionL m) ≡ true)
+padded c =
+    let b = c .before .before .before in
+    let a = b .before .before .before in (
+      held (a .before .is-text-then-spaces .ensures) (a .if2 .left),
+      held (b .before .is-text-then-spaces2 .ensures) (b .if3 .left),
+      held (c .before .is-text-then-spaces3 .ensures) (c .if4 .left),
+    )
+
+is-blank-requires : tie.Need-is-blank-requires
+is-blank-requires c κs = search needs
+
+returns-5 : tie.Need-returns-5
+unfolding readL
+returns-5 c =
+    let p = padded (c .before .before) in
+    rw (p .0, p .1, p .2, ← c .before .is-blank .ensures, c .if5 .taken) (search tests)
+
 get-user-requires : tie.Need-get-user-requires
 get-user-requires c κs = search needs
 
@@ -72,13 +100,12 @@ get-name-requires c κs = search needs
 get-name-requires-2 : tie.Need-get-name-requires-2
 get-name-requires-2 c κs = search needs
 
-returns-5 : tie.Need-returns-5
+returns-6 : tie.Need-returns-6
 unfolding readL
-returns-5 c =
-    let t = c .before .before .before in
-    let b = t .before .before .before in
-    let a = b .before .before .before in
-    rw (← a .before .is-text-then-spaces .ensures, not-false (a .before .is-text-then-spaces .result) (a .if2 .left), ← b .before .is-text-then-spaces2 .ensures, not-false (b .before .is-text-then-spaces2 .result) (b .if3 .left), ← t .before .is-text-then-spaces3 .ensures, not-false (t .before .is-text-then-spaces3 .result) (t .if4 .left), c .before .before .get-user .ensures, c .before .get-name .ensures, c .get-name2 .ensures) (search tests)
+returns-6 c =
+    let b = c .before .before .before in
+    let p = padded (b .before .before) in
+    rw (p .0, p .1, p .2, ← b .before .is-blank .ensures, b .if5 .left, c .before .before .get-user .ensures, c .before .get-name .ensures, c .get-name2 .ensures) (search tests)
 
 pub read-l-spec : {M : Type 1} → statement M
 read-l-spec =
@@ -100,7 +127,9 @@ read-l-spec =
     part-session-end
     is-text-then-spaces-requires-3
     returns-4
+    is-blank-requires
+    returns-5
     get-user-requires
     get-name-requires
     get-name-requires-2
-    returns-5)
+    returns-6)
