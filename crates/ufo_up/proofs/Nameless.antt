@@ -13,14 +13,11 @@ use Rattle.ufo_up.specs.Up.{Message, login, writeMessage, Field, FitMess
 use Rattle.ufo_up.proofs.UpMessage.{of-kind}
 use Rattle.ufo_up.proofs.UpExactOne.{checks-login}
 
-abbrev spaces : ℕ → List ℕ
-spaces n = replicate n 32
-
--- every check before it is passed
-pub nameless-is-6 : (password session : List ℕ) → Field 10 password → Field 10 session → readMessage (writeMessage (login (spaces 6) password session)) ≡ refused 6
+-- six spaces for the user, and every check before it passed
+pub nameless-is-6 : (password session : List ℕ) → Field 10 password → Field 10 session → readMessage (writeMessage (login (replicate 6 32) password session)) ≡ refused 6
 unfolding blank textThenSpaces letterOrDigit
 nameless-is-6 password session p s =
-    checks-login (spaces 6) password session refl (p .0) (s .0) ∙ rw (p .1, s .1)
+    checks-login (replicate 6 32) password session refl (p .0) (s .0) ∙ rw (p .1, s .1)
 
 -- type 76 is L: it is not taken, whatever else it says
 pub nameless-is-no-login : (m : List ℕ) (said : Message) → kind m ≡ 76 → readMessage m ≡ taken said → blank (userL m) ≡ true → ⊥
@@ -29,6 +26,6 @@ nameless-is-no-login m said k e b =
     let passed = all-passed (checksL m) (taken (login (userL m) (passwordL m) (sessionL m))) said (sym (of-kind m 76 k) ∙ e) in
     true≢false (sym b ∙ not-true (blank (userL m)) (passed .0 .1 .1 .1 .1 .0))
 
-pub user-is-enough : (user : List ℕ) → Field 6 user → blank user ≡ false → FitMessage (login user (spaces 10) (spaces 10))
+pub user-is-enough : (user : List ℕ) → Field 6 user → blank user ≡ false → FitMessage (login user (replicate 10 32) (replicate 10 32))
 unfolding blank textThenSpaces letterOrDigit
 user-is-enough user u b = (u, (refl, refl), (refl, refl), b)
