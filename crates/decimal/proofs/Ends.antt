@@ -10,11 +10,11 @@ use native.Mathlib.Omega.{arith}
 use lib.Arith.{digits-lt, lt-of-le-ne}
 use lib.Dec.{eqb, leb}
 use lib.ListN.{length, getD, take, drop, length-drop, drop-of-length-le, take-append-drop}
-use borrow.Author.Tests.{eq-eqb, ne-eqb, le-leb, leb-false, eqb-true, eqb-false}
-use Rattle.wire.specs.Checks.{if_then_else_, _is_, _atMost_}
+use borrow.Author.Tests.{ne-eqb, le-leb, leb-false, eqb-true, eqb-false}
+use Rattle.wire.specs.Checks.{_is_, _atMost_}
 use Rattle.wire.proofs.Tests.{by-test, and-left, and-right}
 use Rattle.text.specs.Text.{blank}
-use Rattle.decimal.specs.Decimal.{digit, digits, trimmed, leadingZero, wellFormed, spelt, valueOf, fitted, numberOf}
+use Rattle.decimal.specs.Decimal.{digit, digits, trimmed, wellFormed, spelt, valueOf, fitted, numberOf}
 use Rattle.decimal.specs.declared.Number.the-variants.{Misshapen, Blank, Is}
 use Rattle.decimal.proofs.Digits.{digit-low, digit-step, spelt-step}
 use Rattle.decimal.proofs.Written.{spelt-lt}
@@ -42,6 +42,12 @@ filled : (t : List ℕ) → 0 < length t → digits t ≡ true → blank t ≡ f
 unfolding blank
 filled [] h e = absurd (not-suc-le-zero h)
 filled (b ∷ t) h e = rw (no-space b t e)
+
+-- Spaces or none, and then digits, whatever the first of them: the field is the number that they spell.
+pub spaces-then-digits : (a t : List ℕ) → length (a ++ t) ≡ 20 → blank a ≡ true → digits t ≡ true → 0 < length t → numberOf (a ++ t) ≡ fitted (spelt t)
+unfolding numberOf wellFormed valueOf
+spaces-then-digits a t l f d h =
+    rw (l, trimmed-spaces a t f, trimmed-digits t d, d, blank-append a t, f, filled t h d)
 
 -- ---- a character that is no digit
 
@@ -89,7 +95,7 @@ module _ (s : List ℕ) (k : ℕ) (l : length s ≡ 20) (h : k ≤ 19) (d : digi
   unfolding numberOf wellFormed
   misshapen e f =
       let up : 20 - k ≡ suc (19 - k) = omega arith in
-      rw (mixed s (19 - k) (omega arith) e (rw up at f), and-false, and-false)
+      rw (mixed s (19 - k) (omega arith) e (rw up at f), and-false)
 
   -- spaces before them
   module _ (f : blank (take (20 - k) s) ≡ true) where
@@ -100,21 +106,17 @@ module _ (s : List ℕ) (k : ℕ) (l : length s ≡ 20) (h : k ≤ 19) (d : digi
     blanks = rw (take-append-drop, f) at (blank-append (take (20 - k) s) (drop (20 - k) s))
 
     pub none : k ≡ 0 → numberOf s ≡ Blank
-    unfolding numberOf wellFormed leadingZero digits blank
+    unfolding numberOf wellFormed digits blank
     none z =
         let past : length s ≤ 20 - k = omega arith in
         let empty : drop (20 - k) s ≡ [] = drop-of-length-le s past in
         rw (l, trims, blanks, empty)
 
-    pub leading : leadingZero (drop (20 - k) s) ≡ true → numberOf s ≡ Misshapen
-    unfolding numberOf wellFormed
-    leading z = rw (l, trims, z)
-
-    pub number : 0 < k → leadingZero (drop (20 - k) s) ≡ false → numberOf s ≡ Is (spelt (drop (20 - k) s))
-    unfolding numberOf wellFormed valueOf
-    number p z =
-        let some : blank (drop (20 - k) s) ≡ false = filled (drop (20 - k) s) (rw count p) d in
-        rw (l, trims, blanks, some, z, d, le-leb (spelt (drop (20 - k) s)) (2 ^ 64 - 1) (omega (arith, below)))
+    pub number : 0 < k → numberOf s ≡ Is (spelt (drop (20 - k) s))
+    number p =
+        let all : length (take (20 - k) s ++ drop (20 - k) s) ≡ 20 = rw take-append-drop l in
+        rw take-append-drop at (spaces-then-digits (take (20 - k) s) (drop (20 - k) s) all f d (rw count p))
+        ∙ rw (le-leb (spelt (drop (20 - k) s)) (2 ^ 64 - 1) (omega (arith, below)))
 
 -- Where the digits stop: the character before them is none, also where all nineteen are digits and the first of the twenty isn't.
 pub stops : (s : List ℕ) (k d : ℕ) → k ≤ 19 → (k < 19 → digit (getD s (19 - k) 0) ≡ false) → digit (getD s 0 0) ≡ leb d 9 → (k is 19) && (d atMost 9) ≡ false → digit (getD s (19 - k) 0) ≡ false
@@ -150,16 +152,12 @@ turn s k d n p l h a e f g u q =
 
 -- ---- a field of twenty digits
 
-pub of-twenty : (s : List ℕ) (d n : ℕ) → length s ≡ 20 → digit (getD s 0 0) ≡ true → d ≡ getD s 0 0 - 48 → digits (drop 1 s) ≡ true → n ≡ spelt (drop 1 s) → numberOf s ≡ (if d is 0 then Misshapen else fitted (d * 10 ^ 19 + n))
-unfolding numberOf wellFormed leadingZero valueOf
+pub of-twenty : (s : List ℕ) (d n : ℕ) → length s ≡ 20 → digit (getD s 0 0) ≡ true → d ≡ getD s 0 0 - 48 → digits (drop 1 s) ≡ true → n ≡ spelt (drop 1 s) → numberOf s ≡ fitted (d * 10 ^ 19 + n)
+unfolding blank
 of-twenty s d n l e f g v =
     let all : digits s ≡ true = digit-step s 0 (omega arith) e ∙ g in
     let value : spelt s ≡ d * 10 ^ 19 + n = rw (l, ← f, ← v) at (spelt-step s 0 (omega arith)) in
-    let low = digit-low (getD s 0 0) e in
-    rw (l, trimmed-digits s all, l, all, filled s (omega arith) all, value)
-    (by-test (d is 0)
-    (λ t. let z = eqb-true d 0 t in rw (t, eq-eqb (getD s 0 0) 48 (omega arith)))
-    (λ t. let z = eqb-false d 0 t in rw (t, ne-eqb (getD s 0 0) 48 (λ q. z (omega arith)))))
+    spaces-then-digits [] s l refl all (omega arith) ∙ rw value
 
 -- where it is over the bound: from two times the last power on, or from what that power leaves on
 pub over : (d n : ℕ) → (d ≡ 0 → ⊥) → (d is 1) && (n atMost 2 ^ 64 - 1 - 10 ^ 19) ≡ false → 2 ^ 64 - 1 < d * 10 ^ 19 + n

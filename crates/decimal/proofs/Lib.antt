@@ -5,4 +5,5 @@ pub mod Stored
 pub mod Spaces
 pub mod Ends
 pub mod Told
+pub mod Noughts
 mod Settled

@@ -1,15 +1,16 @@
--- Writing a number and reading it are inverse to each other.
+-- What is written is read as the number, and what was read without a leading zero is written with the same characters.
 -- Assumes nothing.
 use Prim.Native.Nat.{ℕ, zero, suc, _+_, _-_, _*_, _/_, _%_, _^_, _≤_, _<_}
 use mathlib.Core.Path.{_≡_, refl, sym, ap, _∙_}
 use mathlib.Core.List.{List, [], _∷_}
-use mathlib.Core.Bool.{true, false, not, and-false}
+use mathlib.Core.Bool.{true, false, _&&_, and-false}
 use native.Mathlib.Nat.{mod-lt, mod-one, mod-eq-of-lt, pow-succ', pow-le-pow-right, le-div-iff-mul-le, div-lt-iff-lt-mul, mul-add-div-right, mul-add-mod-self-right, mul-assoc, one-mul, mul-le-mul-right, le-trans}
 use native.Mathlib.Omega.{arith}
 use lib.Arith.{mod-mul, digits-div, digits-lt}
 use lib.Dec.{eqb, leb}
 use lib.ListN.{length}
-use borrow.Author.Tests.{ne-eqb, le-leb, lt-leb, eqb-true, eqb-false, leb-true, leb-false, not-true}
+use borrow.Author.Tests.{ne-eqb, le-leb, lt-leb, eqb-true, eqb-false, leb-true, leb-false}
+use Rattle.wire.specs.Checks.{_is_, _atMost_}
 use Rattle.text.specs.Text.{blank}
 use Rattle.decimal.specs.Decimal.{digit, digits, trimmed, leadingZero, wellFormed, spelt, valueOf, character, places, written}
 use Rattle.wire.proofs.Tests.{by-test, and-left, and-right}
@@ -85,6 +86,7 @@ pub record Spells (s : List ℕ) (n : ℕ) : Type 0 where
   pub formed : wellFormed s ≡ true
   pub filled : blank s ≡ false
   pub value : valueOf s ≡ n
+  pub unpadded : leadingZero s ≡ false
 
 spells-plain : (k n : ℕ) → 10 ^ k ≤ n → n < 10 ^ suc k → Spells (plain (suc k) n) n
 unfolding wellFormed valueOf trimmed leadingZero blank
@@ -93,19 +95,20 @@ spells-plain k n h l =
     let space : eqb (48 + d) 32 ≡ false = ne-eqb (48 + d) 32 (λ e. omega arith) in
     let nought : eqb (48 + d) 48 ≡ false = ne-eqb (48 + d) 48 (λ e. omega (arith, lead k n h l)) in
     record {
-      formed = rw (space, nought, and-false, digits-plain (suc k) n);
+      formed = rw (space, digits-plain (suc k) n);
       filled = rw space;
       value = rw space (spelt-plain (suc k) n ∙ mod-eq-of-lt l);
+      unpadded = rw (space, nought, and-false);
     }
 
 -- one more space in front
 spells-space : (s : List ℕ) (n : ℕ) → Spells s n → Spells (32 ∷ s) n
-unfolding wellFormed valueOf trimmed blank
-spells-space s n p = record { formed = p .formed; filled = p .filled; value = p .value }
+unfolding wellFormed valueOf trimmed leadingZero blank
+spells-space s n p = record { formed = p .formed; filled = p .filled; value = p .value; unpadded = p .unpadded }
 
 spells-zero : (n : ℕ) → n < 1 → Spells (places 1 n) n
 unfolding places character wellFormed valueOf trimmed leadingZero blank digits digit spelt
-spells-zero n h = let z : n ≡ 0 = omega arith in rw z (record { formed = refl; filled = refl; value = refl })
+spells-zero n h = let z : n ≡ 0 = omega arith in rw z (record { formed = refl; filled = refl; value = refl; unpadded = refl })
 
 spells-full : (k n : ℕ) → n < 10 ^ suc k → 10 ^ k ≤ n → Spells (places (suc k) n) n
 spells-full k n l h = rw (full k n h) (spells-plain k n h l)
@@ -120,7 +123,7 @@ spells-places (suc k) n l =
     let s : n < 10 ^ suc k = leb-false (10 ^ suc k) n t in
     rw (unreached (suc k) n (omega arith) s) (spells-space (places (suc k) n) n (spells-places k n s)))
 
--- What is written is well formed, and reading it gives the number.
+-- What is written is well formed, reading it gives the number, and it has no leading zero.
 pub read-written : (n : ℕ) → n < 2 ^ 64 → Spells (written n) n
 unfolding written
 read-written n b = spells-places 19 n (omega arith)
@@ -159,9 +162,9 @@ plain-spelt (b ∷ s) e =
     let r = rest b s e in
     rw (digits-div (b - 48) (spelt-lt s r), mod-eq-of-lt (small b s e), w, plain-shift (length s) (b - 48) (spelt s), plain-spelt s r)
 
--- digits without a leading zero are as many as their number has
-no-gap : (b : ℕ) (s : List ℕ) → leadingZero (b ∷ s) ≡ false → digits (b ∷ s) ≡ true → places (length (b ∷ s)) (spelt (b ∷ s)) ≡ b ∷ s
-unfolding places character leadingZero spelt
+-- digits that don't begin with a 0, or a digit alone, are as many as their number has
+no-gap : (b : ℕ) (s : List ℕ) → 2 atMost length (b ∷ s) && b is 48 ≡ false → digits (b ∷ s) ≡ true → places (length (b ∷ s)) (spelt (b ∷ s)) ≡ b ∷ s
+unfolding places character spelt
 no-gap b [] z e = plain-spelt (b ∷ []) e
 no-gap b (x ∷ s) z e =
     let k = length (x ∷ s) in
@@ -182,39 +185,30 @@ unfolding trimmed blank
 some [] e = let z : _≡_ {A = ℕ} 0 1 = cc in omega arith
 some (b ∷ s) e = by-test (eqb b 32) (λ t. rw t (some s (rw t at e))) (λ t. rw t (omega arith))
 
--- the digits after the spaces, of a well-formed field
-module _ (s : List ℕ) (f : wellFormed s ≡ true) where
-  all-digits : digits (trimmed s) ≡ true
-  unfolding wellFormed
-  all-digits = and-right (not (leadingZero (trimmed s))) (digits (trimmed s)) f
+-- a well-formed field with a space more in front
+one-more-space : (s : List ℕ) → wellFormed s ≡ true → blank s ≡ false → places (suc (length s)) (valueOf s) ≡ 32 ∷ places (length s) (valueOf s)
+unfolding places wellFormed valueOf
+one-more-space s f e =
+    let l : spelt (trimmed s) < 10 ^ length (trimmed s) = spelt-lt (trimmed s) f in
+    let g : 10 ^ length (trimmed s) ≤ 10 ^ length s = pow-le-pow-right (omega arith) (shorter s) in
+    rw (unreached (length s) (spelt (trimmed s)) (omega (arith, shorter s, some s e)) (omega arith))
 
-  no-leading : leadingZero (trimmed s) ≡ false
-  unfolding wellFormed
-  no-leading = not-true (leadingZero (trimmed s)) (and-left (not (leadingZero (trimmed s))) (digits (trimmed s)) f)
-
-  -- it has a space more in front
-  padded : blank s ≡ false → places (suc (length s)) (valueOf s) ≡ 32 ∷ places (length s) (valueOf s)
-  unfolding places valueOf
-  padded e =
-      let l : spelt (trimmed s) < 10 ^ length (trimmed s) = spelt-lt (trimmed s) all-digits in
-      let g : 10 ^ length (trimmed s) ≤ 10 ^ length s = pow-le-pow-right (omega arith) (shorter s) in
-      rw (unreached (length s) (spelt (trimmed s)) (omega (arith, shorter s, some s e)) (omega arith))
-
-back : (s : List ℕ) → wellFormed s ≡ true → blank s ≡ false → places (length s) (valueOf s) ≡ s
-unfolding wellFormed valueOf trimmed blank
-back [] f e = let z : _≡_ {A = ℕ} 0 1 = cc in absurd (omega arith)
-back (b ∷ s) f e =
+back : (s : List ℕ) → wellFormed s ≡ true → blank s ≡ false → leadingZero s ≡ false → places (length s) (valueOf s) ≡ s
+unfolding wellFormed valueOf trimmed leadingZero blank
+back [] f e z = let n : _≡_ {A = ℕ} 0 1 = cc in absurd (omega arith)
+back (b ∷ s) f e z =
     by-test (eqb b 32)
     (λ t.
     let g : wellFormed s ≡ true = rw t at f in
     let h : blank s ≡ false = rw t at e in
-    rw (t, padded s g h, back s g h, eqb-true b 32 t))
+    let u : leadingZero s ≡ false = rw t at z in
+    rw (t, one-more-space s g h, back s g h u, eqb-true b 32 t))
     (λ t.
-    let z : leadingZero (b ∷ s) ≡ false = rw t at (no-leading (b ∷ s) f) in
-    let a : digits (b ∷ s) ≡ true = rw t at (all-digits (b ∷ s) f) in
-    rw t (no-gap b s z a))
+    let a : digits (b ∷ s) ≡ true = rw t at f in
+    let u : 2 atMost length (b ∷ s) && b is 48 ≡ false = rw t at z in
+    rw t (no-gap b s u a))
 
--- Writing what was read gives the same twenty characters.
-pub written-read : (s : List ℕ) → length s ≡ 20 → wellFormed s ≡ true → blank s ≡ false → written (valueOf s) ≡ s
+-- Writing what was read without a leading zero gives the same twenty characters.
+pub written-read : (s : List ℕ) → length s ≡ 20 → wellFormed s ≡ true → blank s ≡ false → leadingZero s ≡ false → written (valueOf s) ≡ s
 unfolding written
-written-read s l f e = rw (← l) (back s f e)
+written-read s l f e z = rw (← l) (back s f e z)

@@ -23,13 +23,9 @@ unfoldable pub trimmed : List ℕ → List ℕ
 trimmed [] = []
 trimmed (b ∷ s) = if b is 32 then trimmed s else b ∷ s
 
--- a 0 with more digits after it
-unfoldable pub leadingZero : List ℕ → Bool
-leadingZero s = 2 atMost length s && getD s 0 0 is 48
-
--- spaces, then digits, without a leading zero unless the number is 0
+-- spaces, then digits
 unfoldable pub wellFormed : List ℕ → Bool
-wellFormed s = not (leadingZero (trimmed s)) && digits (trimmed s)
+wellFormed s = digits (trimmed s)
 
 -- each digit times ten to the power of how many follow it
 unfoldable pub spelt : List ℕ → ℕ
@@ -53,6 +49,10 @@ places (suc k) n = character n k ∷ places k n
 -- the twenty characters that spell n
 unfoldable pub written : ℕ → List ℕ
 written n = places 20 n
+
+-- padded with noughts: a 0 after the spaces, and more behind it; read, but never written
+unfoldable pub leadingZero : List ℕ → Bool
+leadingZero s = 2 atMost length (trimmed s) && getD (trimmed s) 0 0 is 48
 
 -- a value, unless it is over the bound
 abbrev pub fitted : ℕ → Number

@@ -3,10 +3,9 @@ ghost use mathlib.Core.Path.{_≡_};
 ghost use mathlib.Core.Bool.{true, false};
 ghost use Prim.Native.Nat.{_+_, _-_, _*_, _/_, _%_, _^_, _≤_, _<_};
 ghost use lib.ListN.{length, getD, take, drop};
-ghost use Rattle.wire.specs.Checks.{if_then_else_, _is_, _atMost_};
+ghost use Rattle.wire.specs.Checks.{_atMost_};
 ghost use Rattle.text.specs.Text.{blank};
-ghost use Rattle.decimal.specs.Decimal.{digit, digits, leadingZero, spelt, written, fitted, numberOf};
-ghost use Rattle.decimal.specs.declared.Number.the-variants.{Misshapen};
+ghost use Rattle.decimal.specs.Decimal.{digit, digits, spelt, written, fitted, numberOf};
 
 // The power of ten at each place, counted from the right.
 const POWERS: [u64; 20] = [
@@ -77,10 +76,10 @@ fn tail_of(s: &[u8]) -> Tail
 // The digit d in front of nineteen that come to n: only here can the sum be over 2^64-1.
 fn twenty(d: u64, n: u64) -> Number
     requires { ⌜ n < 10 ^ 19 ⌝ }
-    ensures { λ r. ⌜ r ≡ (if d is 0 then Misshapen else fitted (d * 10 ^ 19 + n)) ⌝ }
+    ensures { λ r. ⌜ r ≡ fitted (d * 10 ^ 19 + n) ⌝ }
 {
     if d == 0 {
-        return Number::Misshapen;
+        return Number::Is(n);
     }
     if (d == 1) & (n <= u64::MAX - POWERS[19]) {
         Number::Is(POWERS[19] + n)
@@ -134,17 +133,6 @@ fn are_spaces(s: &[u8], n: usize) -> bool
     eight_spaces(s, n - 8)
 }
 
-fn has_leading_zero(s: &[u8], from: usize) -> bool
-    requires { ⌜ from ≤ length (now s) ⌝ }
-    ensures { λ r. ⌜ r ≡ leadingZero (drop from (now (s .entry))) ⌝ }
-{
-    if 2 <= s.len() - from {
-        s[from] == b'0'
-    } else {
-        false
-    }
-}
-
 // Any characters, read. Where there are no digits their sum is 0 too: that is told as blank, never as a number.
 pub fn read(s: &[u8]) -> Number
     ensures { λ r. ⌜ r ≡ numberOf (now (s .entry)) ⌝ }
@@ -163,9 +151,6 @@ pub fn read(s: &[u8]) -> Number
     }
     if tail.count == 0 {
         return Number::Blank;
-    }
-    if has_leading_zero(s, from) {
-        return Number::Misshapen;
     }
     Number::Is(tail.value)
 }

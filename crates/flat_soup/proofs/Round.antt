@@ -1,8 +1,9 @@
--- SoupTCP's round: what was read is written with the same bytes, and what was written is read with the same fields.
+-- SoupTCP's round: what was read is written as its spelling, and what was written is read with the same fields.
 -- Assumes nothing.
 use Prim.Native.Nat.{ℕ, _+_}
-use mathlib.Core.Path.{_≡_, refl, _∙_}
+use mathlib.Core.Path.{_≡_, refl, sym, ap, _∙_}
 use mathlib.Core.List.{List, [], _∷_, _++_, append-assoc, append-nil}
+use mathlib.Core.Bool.{false}
 use lib.ListN.{length, getD, take, length-append}
 use lib.Seq.{take-at}
 use Rattle.wire.specs.Fields.{Bytes}
@@ -14,15 +15,18 @@ use Rattle.soup.specs.Packet as soup
 use Rattle.soup.specs.Packet.{line, carries, write, Fit}
 use Rattle.soup.specs.Read.{field, payload, opening, lineChecks, sizedChecks, rejectChecks, acceptChecks, loginChecks, rejectOf, acceptOf, loginOf, read}
 use Rattle.soup.specs.Reading.{packetOf, readingOf}
+use Rattle.soup.specs.Spelling.{spelling, padded}
 use Rattle.soup.proofs.Lines.{payload-line, field-in}
+use Rattle.soup.proofs.SpeltAnew.{unspelt, same-type}
 use Rattle.soup.proofs.Exact.{written-is-read, read-is-written}
+use Rattle.soup.proofs.Spelling.{read-alike, own-spelling}
 use Rattle.soup_write.specs.Writing.{reply}
 use Rattle.flat_packet.specs.declared.Packet.{Packet}
 use Rattle.flat_packet.specs.declared.Read.{Read}
 use Rattle.flat_packet.specs.Packets.{bare, named, rejected, payload as carried, loggedIn}
 use Rattle.flat_packet.specs.Fitting.{alone}
 use Rattle.wire.proofs.Numbered.{never-checked, never-taken, never-under, never-either}
-use Rattle.flat_packet.proofs.Round.{bodyOf, Flat, padded-right-text, padded-left-text, same-name, same-user, Round, rounds, unfit-not-given, given-no-body, given-by-kind, settled}
+use Rattle.flat_packet.proofs.Round.{bodyOf, Flat, padded-right-text, padded-left-text, same-name, same-user, told-as-0, Round, rounds, unfit-not-given, given-no-body, given-by-kind, settled}
 use Rattle.flat_soup.specs.Reading.{flatSoup, soupRead}
 use Rattle.flat_soup.specs.Writing.{soupBare, soupReply}
 
@@ -65,20 +69,56 @@ flat-again (soup.unsequenced message) f = (refl, λ room. rw (inside message))
 flat-again soup.clientHeartbeat f = (refl, λ room. refl)
 flat-again soup.logout f = (refl, λ room. refl)
 
+-- a body is no part of what is spelt anew: a packet that has one has no number
+module _ (d : List ℕ) where
+  carried-stays : (kind : ℕ) (s : List ℕ) (p : Packet) → line kind s ≡ spelling d → kind is 65 ≡ false → kind is 76 ≡ false → bodyOf p (spelling d) ≡ bodyOf p d
+  carried-stays kind s p w a l = ap (bodyOf p) (unspelt d kind (sym (same-type d) ∙ ap (λ (x : List ℕ). getD x 0 0) (sym w)) a l)
+
+  body-stays : (q : soup.Packet) → write q ≡ spelling d → let p = flatSoup (packetOf q) .packet in bodyOf p (spelling d) ≡ bodyOf p d
+  body-stays (soup.debug text) w = carried-stays 43 text (flatSoup (packetOf (soup.debug text)) .packet) w refl refl
+  body-stays (soup.accept session number) w = refl
+  body-stays (soup.reject reason) w = refl
+  body-stays (soup.sequenced message) w = carried-stays 83 message (flatSoup (packetOf (soup.sequenced message)) .packet) w refl refl
+  body-stays soup.serverHeartbeat w = refl
+  body-stays soup.endOfSession w = refl
+  body-stays (soup.login user password session number) w = refl
+  body-stays (soup.unsequenced message) w = carried-stays 85 message (flatSoup (packetOf (soup.unsequenced message)) .packet) w refl refl
+  body-stays soup.clientHeartbeat w = refl
+  body-stays soup.logout w = refl
+
 module _ (d : List ℕ) (b : Bytes d) where
-  round : soupRead d .refusal ≡ 0 → Round soupReply d (soupRead d .packet)
+  round : soupRead d .refusal ≡ 0 → Round soupReply (spelling d) (soupRead d .packet)
   round =
       rounds Fit write (λ size v. flatSoup (readingOf v)) soupReply
       (λ q f. let a = flat-again q f in (a .0, λ room. a .1 room ∙ rw (written-is-read q f)))
-      d (read d) (λ q. read-is-written d q b) (never-0 d) (λ n. refl)
+      (spelling d) (read d) (λ q e. let l = read-is-written d q b e in (l .0, l .1)) (never-0 d) (λ n. refl)
 
-  -- What was read, written with its body, is the same bytes.
-  pub read-then-written : (room : ℕ) → soupRead d .refusal ≡ 0 → let p = soupRead d .packet in soupReply p (bodyOf p d) room ≡ within room d
-  read-then-written room e = round e .1 room
+  -- what holds of every packet that was read
+  took : (P : Read → Type 0) → ((q : soup.Packet) → read d ≡ taken q → P (flatSoup (packetOf q))) → soupRead d .refusal ≡ 0 → P (soupRead d)
+  took P = told-as-0 (λ v. flatSoup (readingOf v)) P (λ n. refl) (read d) (never-0 d)
+
+  -- What was read, written with its body, is its spelling.
+  pub read-then-written : (room : ℕ) → soupRead d .refusal ≡ 0 → let p = soupRead d .packet in soupReply p (bodyOf p d) room ≡ within room (spelling d)
+  read-then-written room e =
+      let p = soupRead d .packet in
+      let s : bodyOf p (spelling d) ≡ bodyOf p d = took (λ r. bodyOf (r .packet) (spelling d) ≡ bodyOf (r .packet) d) (λ q t. body-stays d q (read-is-written d q b t .1)) e in
+      ap (λ (x : List ℕ). soupReply p x room) (sym s) ∙ round e .1 room
+
+  -- These are the same bytes, unless its number is padded with noughts.
+  pub same-bytes : (room : ℕ) → soupRead d .refusal ≡ 0 → padded d ≡ false → let p = soupRead d .packet in soupReply p (bodyOf p d) room ≡ within room d
+  same-bytes room e u =
+      read-then-written room e ∙ ap (within room) (took (λ r. spelling d ≡ d) (λ q t. own-spelling d q b t u) e)
+
+  -- The spelling is read with the same fields, and written again it stays as it is.
+  pub spelling-then-read : soupRead d .refusal ≡ 0 → soupRead (spelling d) ≡ soupRead d
+  spelling-then-read = took (λ r. soupRead (spelling d) ≡ r) (λ q t. rw (read-alike d q b t))
+
+  pub spelling-then-written : (room : ℕ) → soupRead d .refusal ≡ 0 → let p = soupRead (spelling d) .packet in soupReply p (bodyOf p (spelling d)) room ≡ within room (spelling d)
+  spelling-then-written room e = rw (spelling-then-read e) (round e .1 room)
 
   -- The flat kind of a packet is its type byte.
   pub kind-is-the-type-byte : soupRead d .refusal ≡ 0 → soupRead d .packet .kind ≡ getD d 0 0
-  kind-is-the-type-byte e = round e .0
+  kind-is-the-type-byte e = round e .0 ∙ same-type d
 
 -- ---- what was written
 

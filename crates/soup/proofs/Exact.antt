@@ -1,10 +1,10 @@
--- The reader takes exactly the lawful packets, with the same fields and the same bytes.
+-- The reader takes exactly the lawful packets, with the same fields, and with the same bytes but for noughts in front of a number.
 -- Assumes nothing.
-use Prim.Native.Nat.{ℕ, _+_, _-_, _^_, _≤_, _<_}
+use Prim.Native.Nat.{ℕ, suc, _+_, _-_, _^_, _≤_, _<_}
 use mathlib.Core.Path.{_≡_, refl, sym, ap, _∙_}
 use mathlib.Core.Logic.{⊎-elim}
 use mathlib.Core.List.{List, [], _∷_, _++_, append-assoc, append-nil}
-use mathlib.Core.Bool.{true, not}
+use mathlib.Core.Bool.{true, false, not}
 use native.Mathlib.Omega.{arith}
 use lib.Dec.{eqb, leb}
 use lib.ListN.{length, getD, drop, length-append, length-drop, length-take}
@@ -16,12 +16,15 @@ use Rattle.text.specs.Text.{blank}
 use Rattle.wire.proofs.Checks.{all-passed, passed-all, not-both, taken-same, chosen}
 use Rattle.wire.proofs.Tests.{one-of-fact}
 use Rattle.wire.proofs.Width.{bytes-drop, bytes-take, length-part}
-use Rattle.decimal.specs.Decimal.{wellFormed, valueOf, written}
+use Rattle.decimal.specs.Decimal.{wellFormed, valueOf, written, leadingZero}
 use Rattle.soup.specs.Packet.{Packet, debug, accept, reject, sequenced, serverHeartbeat, endOfSession, login, unsequenced, clientHeartbeat, logout, line, write, Payload, PaddedRight, PaddedLeft, Fit}
-use Rattle.soup.specs.Read.{last, field, payload, unbroken, opening, lineChecks, sizedChecks, rejectChecks, acceptChecks, loginChecks, rejectOf, acceptOf, loginOf, readReject, readAccept, readLogin, byType, read}
+use Rattle.soup.specs.Read.{last, field, payload, unbroken, opening, lineChecks, sizedChecks, rejectChecks, rejectOf, acceptOf, loginOf, readReject, readAccept, readLogin, byType, read}
+use Rattle.soup.specs.Spelling.{speltAnew, spelling, padded}
 use Rattle.decimal.proofs.Written.{read-written, written-read, length-written}
 use Rattle.soup.proofs.Linefeed.{unbroken-none, none-unbroken, more, append-unbroken, right-unbroken, left-unbroken, written-unbroken}
 use Rattle.soup.proofs.Lines.{length-line, last-line, front-line, payload-line, line-whole, two-bytes, payload-unbroken, fields-join, field-in}
+use Rattle.soup.proofs.Fields.{accept-taken, login-taken}
+use Rattle.soup.proofs.SpeltAnew.{anew, unspelt}
 
 -- ---- a lawful packet passes every check
 
@@ -118,11 +121,11 @@ module _ (d : List ℕ) (h : 2 ≤ length d) (p : Passed (lineChecks d)) where
   clean = payload-unbroken d h ending (p .1 .0)
 
 module _ (d : List ℕ) (b : Bytes d) (o : Passed (opening d)) (p : Packet) where
-  abbrev Lawful : Type 0
-  Lawful = Fit p × (write p ≡ d)
+  abbrev Same : Type 0
+  Same = Fit p × (write p ≡ d)
 
   -- a payload, under any of the three types
-  carried : (kind : ℕ) (packet : List ℕ → Packet) → ((s : List ℕ) → Payload s → Fit (packet s)) → ((s : List ℕ) → write (packet s) ≡ line kind s) → (kind ≡ 10 → ⊥) → eqb (getD d 0 0) kind ≡ true → checked (lineChecks d) (taken (packet (payload d))) ≡ taken p → Lawful
+  carried : (kind : ℕ) (packet : List ℕ → Packet) → ((s : List ℕ) → Payload s → Fit (packet s)) → ((s : List ℕ) → write (packet s) ≡ line kind s) → (kind ≡ 10 → ⊥) → eqb (getD d 0 0) kind ≡ true → checked (lineChecks d) (taken (packet (payload d))) ≡ taken p → Same
   carried kind packet fit laid k t e =
       let r = all-passed (lineChecks d) (taken (packet (payload d))) p e in
       let q : getD d 0 0 ≡ kind = eqb-true (getD d 0 0) kind t in
@@ -151,11 +154,11 @@ module _ (d : List ℕ) (b : Bytes d) (o : Passed (opening d)) (p : Packet) wher
         rw (← q, ← size) (whole d (omega (arith, size)) (passed .0 .1))
 
   -- a packet that holds nothing, under any of the four types
-  bare : (kind : ℕ) (packet : Packet) → Fit packet → write packet ≡ line kind [] → eqb (getD d 0 0) kind ≡ true → checked (sizedChecks 2 d) (taken packet) ≡ taken p → Lawful
+  bare : (kind : ℕ) (packet : Packet) → Fit packet → write packet ≡ line kind [] → eqb (getD d 0 0) kind ≡ true → checked (sizedChecks 2 d) (taken packet) ≡ taken p → Same
   bare kind packet fit laid t e =
       rw (← taken-same packet p (verdict 2 (omega arith) (taken packet) e)) (fit, laid ∙ framed 2 (omega arith) (taken packet) e kind t)
 
-  rejected : eqb (getD d 0 0) 74 ≡ true → readReject d ≡ taken p → Lawful
+  rejected : eqb (getD d 0 0) 74 ≡ true → readReject d ≡ taken p → Same
   unfolding rejectOf Fit
   rejected t e =
       let v = rejectOf (getD d 1 0) in
@@ -166,46 +169,73 @@ module _ (d : List ℕ) (b : Bytes d) (o : Passed (opening d)) (p : Packet) wher
         ap (line 74) (sym c) ∙ framed 3 (omega arith) v e 74 t,
       )
 
-  -- a number that was read
-  numbered : (s : List ℕ) → length s ≡ 20 → wellFormed s ≡ true → not (blank s) ≡ true → leb (valueOf s) (2 ^ 64 - 1) ≡ true → (written (valueOf s) ≡ s) × (valueOf s < 2 ^ 64)
-  numbered s l f e h = (written-read s l f (not-true (blank s) e), omega (arith, leb-true (valueOf s) (2 ^ 64 - 1) h))
+  -- written again it is the packet's spelling, and the very bytes unless their number is padded with noughts
+  abbrev Lawful : Type 0
+  Lawful = Fit p × (write p ≡ spelling d) × (padded d ≡ false → write p ≡ d)
+
+  -- which are one and the same for any type but A and L
+  own : (kind : ℕ) (v : Verdict Packet) → eqb kind 65 ≡ false → eqb kind 76 ≡ false → (eqb (getD d 0 0) kind ≡ true → v ≡ taken p → Same) → eqb (getD d 0 0) kind ≡ true → v ≡ taken p → Lawful
+  own kind v a l same t e =
+      let s = same t e in
+      (s .0, s .1 ∙ sym (unspelt d kind (eqb-true (getD d 0 0) kind t) a l), λ _. s .1)
+
+  -- a number that was read, where it stands in d
+  numbered : (before s : List ℕ) (place : ℕ) → length before ≡ place → length s ≡ 20 → before ++ s ++ 10 ∷ [] ≡ d → wellFormed s ≡ true → not (blank s) ≡ true → let w = before ++ written (valueOf s) ++ 10 ∷ [] in (w ≡ speltAnew d place) × (leadingZero s ≡ false → w ≡ d)
+  numbered before s place m l all f e = (
+    sym (anew before s (10 ∷ []) place m l) ∙ ap (λ (x : List ℕ). speltAnew x place) all,
+    λ u. ap (λ (x : List ℕ). before ++ x ++ 10 ∷ []) (written-read s l f (not-true (blank s) e) u) ∙ all,
+  )
+
+  within : (n : ℕ) → leb n (2 ^ 64 - 1) ≡ true → n < 2 ^ 64
+  within n h = omega (arith, leb-true n (2 ^ 64 - 1) h)
 
   accepted : eqb (getD d 0 0) 65 ≡ true → readAccept d ≡ taken p → Lawful
-  unfolding acceptOf Fit
+  unfolding Fit spelling padded
   accepted t e =
       let session = field 1 10 d in
       let number = field 11 20 d in
-      let v = acceptOf session number in
-      let l : length d ≡ 32 = size 32 (omega arith) v e in
-      let r = all-passed (acceptChecks session number) (taken (accept session (valueOf number))) p (verdict 32 (omega arith) v e) in
-      let n = numbered number (length-part 11 20 d (omega arith)) (r .0 .1 .0) (r .0 .1 .1 .1 .0) (r .0 .1 .1 .1 .1 .1 .0) in
-      let z = eqb-false (valueOf number) 0 (not-true (eqb (valueOf number) 0) (r .0 .1 .1 .1 .1 .0)) in
-      rw (← taken-same (accept session (valueOf number)) p (r .1)) (
-        ((length-part 1 10 d (omega arith), r .0 .0), not-true (blank session) (r .0 .1 .1 .0), omega arith, n .1),
-        ap (λ (s : List ℕ). line 65 (session ++ s)) (n .0) ∙ ap (line 65) (sym (fields-join 1 10 20 d)) ∙ framed 32 (omega arith) v e 65 t,
+      let a = accept-taken d p e in
+      let r = a .passed in
+      let l : length d ≡ 32 = a .size in
+      let k : getD d 0 0 ≡ 65 = eqb-true (getD d 0 0) 65 t in
+      let m : length session ≡ 10 = length-part 1 10 d (omega arith) in
+      let i : length number ≡ 20 = length-part 11 20 d (omega arith) in
+      let all : line 65 (session ++ number) ≡ d = ap (line 65) (sym (fields-join 1 10 20 d)) ∙ framed 32 (omega arith) (acceptOf session number) e 65 t in
+      let n = numbered (65 ∷ session) number 11 (omega arith) i all (r .1 .0) (r .1 .1 .1 .0) in
+      let z = eqb-false (valueOf number) 0 (not-true (eqb (valueOf number) 0) (r .1 .1 .1 .1 .0)) in
+      rw (← a .same) (
+        ((m, r .0), not-true (blank session) (r .1 .1 .0), omega arith, within (valueOf number) (r .1 .1 .1 .1 .1 .0)),
+        rw k (n .0),
+        λ u. n .1 (rw k at u),
       )
 
   logged-in : eqb (getD d 0 0) 76 ≡ true → readLogin d ≡ taken p → Lawful
-  unfolding loginOf Fit
+  unfolding Fit spelling padded
   logged-in t e =
       let user = field 1 6 d in
       let password = field 7 10 d in
       let session = field 17 10 d in
       let number = field 27 20 d in
-      let v = loginOf user password session number in
-      let l : length d ≡ 48 = size 48 (omega arith) v e in
-      let r = all-passed (loginChecks user password session number) (taken (login user password session (valueOf number))) p (verdict 48 (omega arith) v e) in
-      let n = numbered number (length-part 27 20 d (omega arith)) (r .0 .1 .1 .1 .0) (r .0 .1 .1 .1 .1 .1 .0) (r .0 .1 .1 .1 .1 .1 .1 .0) in
-      let joined : user ++ password ++ session ++ number ≡ field 1 46 d = rw (← fields-join 1 6 10 d, ← fields-join 1 16 10 d, ← fields-join 1 26 20 d) in
-      rw (← taken-same (login user password session (valueOf number)) p (r .1)) (
+      let a = login-taken d p e in
+      let r = a .passed in
+      let l : length d ≡ 48 = a .size in
+      let k : getD d 0 0 ≡ 76 = eqb-true (getD d 0 0) 76 t in
+      let i : length number ≡ 20 = length-part 27 20 d (omega arith) in
+      let texts : user ++ password ++ session ≡ field 1 26 d = rw (← fields-join 1 6 10 d, ← fields-join 1 16 10 d) in
+      let m : length (76 ∷ (user ++ password ++ session)) ≡ 27 = rw texts (ap suc (length-part 1 26 d (omega arith))) in
+      let joined : user ++ password ++ session ++ number ≡ field 1 46 d = rw (texts, ← fields-join 1 26 20 d) in
+      let all : line 76 (user ++ password ++ session ++ number) ≡ d = ap (line 76) joined ∙ framed 48 (omega arith) (loginOf user password session number) e 76 t in
+      let n = numbered (76 ∷ (user ++ password ++ session)) number 27 m i all (r .1 .1 .1 .0) (r .1 .1 .1 .1 .1 .0) in
+      rw (← a .same) (
         (
-          (length-part 1 6 d (omega arith), r .0 .0),
-          (length-part 7 10 d (omega arith), r .0 .1 .0),
-          (length-part 17 10 d (omega arith), r .0 .1 .1 .0),
-          n .1,
-          not-true (blank user) (r .0 .1 .1 .1 .1 .0),
+          (length-part 1 6 d (omega arith), r .0),
+          (length-part 7 10 d (omega arith), r .1 .0),
+          (length-part 17 10 d (omega arith), r .1 .1 .0),
+          within (valueOf number) (r .1 .1 .1 .1 .1 .1 .0),
+          not-true (blank user) (r .1 .1 .1 .1 .0),
         ),
-        ap (λ (s : List ℕ). line 76 (user ++ password ++ session ++ s)) (n .0) ∙ ap (line 76) joined ∙ framed 48 (omega arith) v e 76 t,
+        rw k (n .0),
+        λ u. n .1 (rw k at u),
       )
 
   -- by the type byte
@@ -213,20 +243,21 @@ module _ (d : List ℕ) (b : Bytes d) (o : Passed (opening d)) (p : Packet) wher
   unfolding Fit
   sorted =
       let kind = getD d 0 0 in
-      chosen (eqb kind 43) _ _ (taken p) (carried 43 debug (λ s f. f) (λ s. refl) (eqb-false 43 10 refl))
+      chosen (eqb kind 43) _ _ (taken p) (own 43 _ refl refl (carried 43 debug (λ s f. f) (λ s. refl) (eqb-false 43 10 refl)))
       (λ _. chosen (eqb kind 65) _ _ (taken p) accepted
-      (λ _. chosen (eqb kind 74) _ _ (taken p) rejected
-      (λ _. chosen (eqb kind 83) _ _ (taken p) (carried 83 sequenced (λ s f. f) (λ s. refl) (eqb-false 83 10 refl))
-      (λ _. chosen (eqb kind 72) _ _ (taken p) (bare 72 serverHeartbeat tt refl)
-      (λ _. chosen (eqb kind 90) _ _ (taken p) (bare 90 endOfSession tt refl)
+      (λ _. chosen (eqb kind 74) _ _ (taken p) (own 74 _ refl refl rejected)
+      (λ _. chosen (eqb kind 83) _ _ (taken p) (own 83 _ refl refl (carried 83 sequenced (λ s f. f) (λ s. refl) (eqb-false 83 10 refl)))
+      (λ _. chosen (eqb kind 72) _ _ (taken p) (own 72 _ refl refl (bare 72 serverHeartbeat tt refl))
+      (λ _. chosen (eqb kind 90) _ _ (taken p) (own 90 _ refl refl (bare 90 endOfSession tt refl))
       (λ _. chosen (eqb kind 76) _ _ (taken p) logged-in
-      (λ _. chosen (eqb kind 85) _ _ (taken p) (carried 85 unsequenced (λ s f. f) (λ s. refl) (eqb-false 85 10 refl))
-      (λ _. chosen (eqb kind 82) _ _ (taken p) (bare 82 clientHeartbeat tt refl)
-      (λ _. chosen (eqb kind 79) _ _ (taken p) (bare 79 logout tt refl)
+      (λ _. chosen (eqb kind 85) _ _ (taken p) (own 85 _ refl refl (carried 85 unsequenced (λ s f. f) (λ s. refl) (eqb-false 85 10 refl)))
+      (λ _. chosen (eqb kind 82) _ _ (taken p) (own 82 _ refl refl (bare 82 clientHeartbeat tt refl))
+      (λ _. chosen (eqb kind 79) _ _ (taken p) (own 79 _ refl refl (bare 79 logout tt refl))
       (λ _. not-both (refused 3) 3 p refl))))))))))
 
--- Nothing else is taken: what is taken is lawful, and written again it gives the very bytes that were read.
-pub read-is-written : (d : List ℕ) (p : Packet) → Bytes d → read d ≡ taken p → Fit p × (write p ≡ d)
+-- Nothing else is taken: what is taken is lawful, and written again it gives its spelling, which is the very bytes that were read unless their number
+-- is padded with noughts.
+pub read-is-written : (d : List ℕ) (p : Packet) → Bytes d → read d ≡ taken p → Fit p × (write p ≡ spelling d) × (padded d ≡ false → write p ≡ d)
 unfolding read
 read-is-written d p b e =
     let r = all-passed (opening d) (byType (getD d 0 0) d) p e in

@@ -1,3 +1,4 @@
 pub mod Packet
 pub mod Read
 pub mod Reading
+pub mod Spelling

@@ -24,6 +24,7 @@ use Rattle.soup.specs.Reading.{packetOf, readingOf}
 use Rattle.soup.specs.declared.reading.Reading.{Reading}
 use Rattle.soup.specs.declared.reading.Reading.the-variants.{Refused, Accept, Sequenced}
 use Rattle.soup.proofs.Exact.{read-is-written}
+use Rattle.soup.proofs.SpeltAnew.{same-type}
 use Rattle.soup.proofs.Lines.{two-bytes}
 use Rattle.soup.proofs.Sorting.{by-type}
 use Rattle.soup.proofs.reading.Reading as Reading-type
@@ -144,6 +145,6 @@ module _ (d : List ℕ) (l : Line d) (next place : ℕ) where
       by : (v : Verdict Packet) → read d ≡ v → unnumbered r (length d) next place ≡ closed d next place
       by (refused n) q = absurd (miss others 0 tt (rw (e, q) at k))
       by (taken p) q =
-          let s : getD (write p) 0 0 ≡ 83 → ⊥ = rw (read-is-written d p b q .1) f in
+          let s : getD (write p) 0 0 ≡ 83 → ⊥ = rw (read-is-written d p b q .1, same-type d) f in
           let t = told p .other (rw (e, q) at k) s in
           rw (q, t, t, e, q)

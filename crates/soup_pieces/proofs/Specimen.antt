@@ -6,7 +6,7 @@ use mathlib.Core.List.{List, [], _∷_, _++_}
 use mathlib.Core.Bool.{false}
 use lib.ListN.{replicate}
 use Rattle.text.specs.Text.{letterOrDigit, blank, text, spacesThenText}
-use Rattle.decimal.specs.Decimal.{digit, digits, trimmed, leadingZero, wellFormed, spelt, valueOf}
+use Rattle.decimal.specs.Decimal.{digit, digits, trimmed, wellFormed, spelt, valueOf}
 use Rattle.soup.specs.Packet.{accept, sequenced, serverHeartbeat, line}
 use Rattle.soup.specs.Read.{unbroken, acceptOf, read}
 use Rattle.soup_pieces.specs.Machine.{packet, refusal, judge, empty, eat, outcomes, after, handed}
@@ -37,10 +37,10 @@ pub comes-out : handed (outcomes (empty false 0) fed)
     ∷ refusal accepted 16
     ∷ packet message (sequenced (72 ∷ 73 ∷ [])) 2
     ∷ []
-unfolding outcomes handed eat judge read acceptOf unbroken spacesThenText text letterOrDigit blank wellFormed valueOf trimmed leadingZero digits digit spelt
+unfolding outcomes handed eat judge read acceptOf unbroken spacesThenText text letterOrDigit blank wellFormed valueOf trimmed digits digit spelt
 comes-out = refl
 
 -- an S has begun, and the message that it is will be number 3
 pub stands : after (empty false 0) fed ≡ record { kept = 83 ∷ []; dropping = false; next = 3 }
-unfolding after eat judge read acceptOf unbroken spacesThenText text letterOrDigit blank wellFormed valueOf trimmed leadingZero digits digit spelt
+unfolding after eat judge read acceptOf unbroken spacesThenText text letterOrDigit blank wellFormed valueOf trimmed digits digit spelt
 stands = refl

@@ -8,7 +8,7 @@ pub const OVERLONG: u8 = 2;
 pub const UNKNOWN_TYPE: u8 = 3;
 // Too short, too long, or blocks that don't end where the packet does.
 pub const FRAMING: u8 = 4;
-// Padding, alphabet, reason code, leading zero, header length.
+// Padding, alphabet, reason code, header length.
 pub const FORM: u8 = 5;
 // Blank or zero where a number must stand; no session in an acceptance or a record, no user in a login.
 pub const ABSENT: u8 = 6;

@@ -1,7 +1,8 @@
 //! Replays of many small messages, each the same through the proved desk and the ordinary one.
 //!
 //! A replay gives the messages of a tape to a desk and answers with a checksum of what the desk
-//! said and wrote. It panics if any is refused, but for `login`, where a refusal is an answer too.
+//! said and wrote. It panics if any is refused, but for logins that are read, where a refusal is an
+//! answer too.
 
 #![deny(missing_docs)]
 
@@ -36,7 +37,7 @@ pub struct Replay {
 }
 
 /// Every replay there is.
-pub const REPLAYS: [Replay; 14] = [
+pub const REPLAYS: [Replay; 15] = [
     Replay {
         name: "ufo",
         about: "UFO datagrams of 50 messages, each read and then taken into a session record",
@@ -100,8 +101,14 @@ pub const REPLAYS: [Replay; 14] = [
     Replay {
         name: "login",
         about: "Soup logins, asked for and accepted, each read, one in ten damaged in its number",
-        proved: login::read::<Proved>,
-        ordinary: login::read::<Ordinary>,
+        proved: |count| login::read::<Proved>(1, count),
+        ordinary: |count| login::read::<Ordinary>(1, count),
+    },
+    Replay {
+        name: "login-noughts",
+        about: "the same with noughts, not spaces, before each number that is not damaged",
+        proved: |count| login::read::<Proved>(20, count),
+        ordinary: |count| login::read::<Ordinary>(20, count),
     },
     Replay {
         name: "login-write",

@@ -4,17 +4,17 @@ use crate::desk::{Desk, Login};
 use crate::tape::{Sum, TURN};
 use std::hint::black_box;
 
-/// The ways of damage, in turn: a bad character among the digits, a space among them, a leading
-/// zero, a number above 2^64-1, no number. `<` and `>` stand for the halves of the digits.
+/// The ways of damage, in turn: a bad character among the digits, a space among them, noughts before
+/// a space, a number above 2^64-1, no number. `<` and `>` stand for the halves of the digits.
 const DAMAGE: [&str; 10] = [
     "<x>",
     "< >",
-    "0<>",
+    "0 <>",
     "18446744073709551616",
     "",
     "</>",
     "<  >",
-    "00<>",
+    "00 <>",
     "99999999999999999999",
     "",
 ];
@@ -40,12 +40,13 @@ fn login(place: u64) -> Login {
     }
 }
 
-/// The digits at a place of the tape. Four of forty are damaged, each time others.
-fn digits(place: u64, number: u64) -> String {
+/// The digits at a place of the tape, with noughts before them where they are fewer than `least`. Four
+/// of forty are damaged instead, each time others.
+fn digits(place: u64, number: u64, least: usize) -> String {
     let (round, turn) = (place / 40, place % 40);
     let digits = number.to_string();
     if (round + turn) % 10 != 0 {
-        return digits;
+        return format!("{digits:0>least$}");
     }
     let before = 4 * round + turn / 10;
     let (first, second) = digits.split_at(digits.len().div_ceil(2));
@@ -54,10 +55,10 @@ fn digits(place: u64, number: u64) -> String {
         .replace('>', second)
 }
 
-/// The packet at a place of the tape.
-fn packet(place: u64) -> Vec<u8> {
+/// The packet at a place of the tape, whose number has at least so many digits.
+fn packet(place: u64, least: usize) -> Vec<u8> {
     let Login { who, session, next } = login(place);
-    let digits = digits(place, next);
+    let digits = digits(place, next, least);
     // twenty characters of the number, and no more if damage made it longer
     let number = format!("{digits:>20.20}\n").into_bytes();
     match who {
@@ -66,14 +67,17 @@ fn packet(place: u64) -> Vec<u8> {
     }
 }
 
-/// Every packet that is read.
-pub fn logins() -> Vec<Vec<u8>> {
-    (0..TURN).map(packet).collect()
+/// Every packet that is read. A number has at least so many digits, noughts among them, unless it is
+/// damaged.
+pub fn logins(least: usize) -> Vec<Vec<u8>> {
+    (0..TURN).map(|place| packet(place, least)).collect()
 }
 
-/// Reads so many packets and gives the checksum of all that was read or why it was refused.
-pub fn read<D: Desk>(count: u64) -> u64 {
-    let packets = logins();
+/// Reads so many packets, whose numbers have at least `least` digits, and gives the checksum of all
+/// that was read or why it was refused.
+pub fn read<D: Desk>(least: usize, count: u64) -> u64 {
+    // `least` is no constant: a loop compiled for each of them is slower on both desks
+    let packets = logins(least);
     let mut sum = Sum::default();
     for _ in 0..count / TURN {
         for packet in &packets {

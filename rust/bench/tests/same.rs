@@ -20,6 +20,15 @@ fn both_desks_do_the_same() {
 }
 
 #[test]
+fn logins_come_to_the_same_with_noughts_before_their_numbers() {
+    let logins = REPLAYS
+        .iter()
+        .filter(|one| ["login", "login-noughts"].contains(&one.name));
+    let sums: Vec<u64> = logins.map(|one| (one.proved)(TURN)).collect();
+    assert_eq!(sums, [sums[0]; 2]);
+}
+
+#[test]
 fn a_stream_comes_to_the_same_wherever_it_is_cut() {
     let pieces = REPLAYS.iter().filter(|one| one.name.starts_with("pieces-"));
     let sums: Vec<u64> = pieces.map(|one| (one.proved)(12 * TURN)).collect();

@@ -48,8 +48,25 @@ impl<A: Answer> Agreed<A> {
     }
 }
 
+impl Agreed<hp_read> {
+    /// Holds what both read against what they read before, of the same packet spelt otherwise.
+    pub fn same_as(self, before: &hp_read, packet: &[u8]) -> Result<(), Difference> {
+        if self.answer == *before {
+            return Ok(());
+        }
+        Err(Difference {
+            size: packet.len(),
+            how: format!(
+                "packet: {}\nas it is:     {before:?}\nits spelling: {:?}",
+                hex(packet),
+                self.answer
+            ),
+        })
+    }
+}
+
 impl Agreed<hp_wrote> {
-    /// Holds what both wrote against the packet that it was read from.
+    /// Holds what both wrote against what was to be written.
     pub fn held_against(self, packet: &[u8]) -> Result<(), Difference> {
         let Agreed { answer, out, .. } = self;
         if answer.refusal == 0 && out[..answer.bytes as usize] == *packet {
@@ -58,7 +75,7 @@ impl Agreed<hp_wrote> {
         Err(Difference {
             size: packet.len(),
             how: format!(
-                "read:    {}\nwritten: {}\nanswer: {answer:?}",
+                "due:     {}\nwritten: {}\nanswer: {answer:?}",
                 hex(packet),
                 hex(&out)
             ),
@@ -227,4 +244,41 @@ fn hex(bytes: &[u8]) -> String {
         };
     }
     told
+}
+
+#[cfg(test)]
+mod tests {
+    use super::*;
+
+    fn agreed<A>(answer: A, out: &[u8]) -> Agreed<A> {
+        Agreed {
+            answer,
+            area: Vec::new(),
+            out: out.to_vec(),
+        }
+    }
+
+    #[test]
+    fn what_is_read_otherwise_is_a_difference() {
+        let read = |number| {
+            let packet = hp_packet {
+                number,
+                ..hp_packet::default()
+            };
+            hp_read { refusal: 0, packet }
+        };
+        assert!(agreed(read(42), b"").same_as(&read(42), b"").is_ok());
+        assert!(agreed(read(42), b"").same_as(&read(0), b"").is_err());
+    }
+
+    #[test]
+    fn what_is_written_otherwise_is_a_difference() {
+        let held = |refusal, bytes, packet: &[u8]| {
+            agreed(hp_wrote { refusal, bytes }, b"H\n").held_against(packet)
+        };
+        assert!(held(0, 2, b"H\n").is_ok());
+        assert!(held(0, 2, b"R\n").is_err());
+        assert!(held(0, 1, b"H\n").is_err());
+        assert!(held(9, 0, b"").is_err());
+    }
 }

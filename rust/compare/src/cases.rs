@@ -12,6 +12,7 @@ use crate::both::{blank, both, Agreed, Difference};
 use crate::dice::Dice;
 use crate::limits::{MEMX, TCP, UFO};
 use crate::make;
+use crate::spelling::spelling;
 use crate::twin::Twin;
 use crate::Case;
 use hinurapay::flat::{hp_packet, hp_read, hp_tcp, hp_wrote};
@@ -71,12 +72,14 @@ fn soup_read(dice: &mut Dice) -> Result<u64, Difference> {
     soup_both_ways(&make::soup_to_read(dice))
 }
 
-/// Reads a Soup packet by both desks; what they take they write again with the same bytes. Says
-/// with which refusal they answered (0: none).
+/// Reads a Soup packet by both desks; what they take they write again as its spelling, which they
+/// read as the same packet. Says with which refusal they answered (0: none).
 pub fn soup_both_ways(packet: &[u8]) -> Result<u64, Difference> {
     let read = both!(hp_soup_read(bytes); lent bytes = packet)?;
     if read.answer.refusal == 0 {
-        soup_laid(read.answer.packet, packet)?.held_against(packet)?;
+        let spelling = spelling(packet);
+        soup_laid(read.answer.packet, packet)?.held_against(&spelling)?;
+        both!(hp_soup_read(bytes); lent bytes = &spelling)?.same_as(&read.answer, packet)?;
     }
     Ok(read.refusal())
 }

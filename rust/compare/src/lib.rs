@@ -10,11 +10,13 @@ pub mod make;
 pub mod plan;
 pub mod session;
 mod smallest;
+mod spelling;
 pub mod twin;
 
 pub use both::{Agreed, Difference};
 pub use cases::{fed, taken, ToAdd, ToTake, FUNCTIONS};
 pub use cases::{memx_both_ways, memx_written, soup_both_ways, soup_written};
+pub use spelling::spelling;
 
 use dice::Dice;
 

@@ -1,4 +1,5 @@
-//! The two desks agree on Soup's number: at every edge, and with every byte at every place.
+//! The two desks agree on Soup's number, and with the paper: at every edge, and with every byte at
+//! every place.
 
 use compare::make::{spelt, with, Decimal, DECIMALS, DECIMAL_NUMBERS};
 use compare::{soup_both_ways, soup_written, Difference};
@@ -10,14 +11,17 @@ const ACCEPTED: &str = "A      8841";
 const LOGIN: &str = "Lme    secret          8841";
 const NAMELESS: &str = "L      secret          8841";
 
-/// Numbers of 0, 1, 2, 10, 19 and 20 digits.
-const NUMBERS: [&str; 6] = [
+/// Numbers of 0, 1, 2, 10, 19 and 20 digits, and some with noughts before them or nothing else.
+const NUMBERS: [&str; 9] = [
     "",
     "7",
     "42",
     "1234567890",
     "9876543210987654321",
     "18446744073709551615",
+    "000042",
+    "00000000000000000042",
+    "00000000000000000000",
 ];
 
 /// The fields of the list, and those numbers with every byte at every place.
@@ -36,19 +40,43 @@ fn packet(start: &str, number: Decimal) -> Vec<u8> {
 }
 
 /// How many answers there were under each refusal (0: none).
-fn counted(answers: impl Iterator<Item = Result<u64, Difference>>) -> BTreeMap<u64, usize> {
+fn counted(answers: impl Iterator<Item = u64>) -> BTreeMap<u64, usize> {
     let mut counts = BTreeMap::new();
-    for answer in answers {
-        let refusal = answer.unwrap_or_else(|difference| panic!("{}", difference.how));
+    for refusal in answers {
         *counts.entry(refusal).or_default() += 1;
     }
     counts
 }
 
-/// Every field, read in a packet that begins so.
-fn read(start: &str) -> BTreeMap<u64, usize> {
+fn agreed(answer: Result<u64, Difference>) -> u64 {
+    answer.unwrap_or_else(|difference| panic!("{}", difference.how))
+}
+
+/// How the paper has a login with this number refused (0: not at all).
+fn due(number: &Decimal) -> u64 {
+    let digits = number.iter().skip_while(|&&byte| byte == b' ');
+    if number.contains(&b'\n') {
+        8
+    } else if !digits.clone().all(u8::is_ascii_digit) {
+        5
+    } else if digits.count() == 0 {
+        6
+    } else if number > b"18446744073709551615" {
+        // spaces come before digits, so that fields of that form are in the order of their numbers
+        7
+    } else {
+        0
+    }
+}
+
+/// Every field, read in a packet that begins so, where the paper's word on a login becomes this one.
+fn read(start: &str, becomes: fn(&Decimal, u64) -> u64) -> BTreeMap<u64, usize> {
     let fields = fields().into_iter();
-    counted(fields.map(|number| soup_both_ways(&packet(start, number))))
+    counted(fields.map(|number| {
+        let refusal = agreed(soup_both_ways(&packet(start, number)));
+        assert_eq!(refusal, becomes(&number, due(&number)), "{number:?}");
+        refusal
+    }))
 }
 
 /// The fields of a packet that begins so.
@@ -61,20 +89,37 @@ fn written(fields: hp_packet, start: &str) -> BTreeMap<u64, usize> {
     let numbers = DECIMAL_NUMBERS.iter();
     counted(numbers.map(|&number| {
         let fields = hp_packet { number, ..fields };
-        soup_written(fields, &packet(start, spelt(number)))
+        agreed(soup_written(fields, &packet(start, spelt(number))))
     }))
+}
+
+/// Whether a field is spaces and then noughts alone.
+fn is_nought(number: &Decimal) -> bool {
+    number.iter().all(|byte| b" 0".contains(byte))
 }
 
 #[test]
 fn every_field_is_read_alike() {
-    assert_eq!((DECIMALS.len(), fields().len()), (3839, 34_083));
-    let accepted = [(0, 1292), (5, 32_547), (6, 2), (7, 123), (8, 119)];
-    assert_eq!(read(ACCEPTED), BTreeMap::from(accepted));
-    let login = [(0, 1293), (5, 32_547), (6, 1), (7, 123), (8, 119)];
-    assert_eq!(read(LOGIN), BTreeMap::from(login));
+    assert_eq!((DECIMALS.len(), fields().len()), (7798, 53_249));
+    let login = [(0, 3501), (5, 49_376), (6, 1), (7, 192), (8, 179)];
+    assert_eq!(read(LOGIN, |_, due| due), BTreeMap::from(login));
+    // from one nought to twenty of them
+    let accepted = [(0, 3501 - 20), (5, 49_376), (6, 1 + 20), (7, 192), (8, 179)];
+    let nought_is_6 = |number: &Decimal, due| match due {
+        0 if is_nought(number) => 6,
+        due => due,
+    };
+    assert_eq!(read(ACCEPTED, nought_is_6), BTreeMap::from(accepted));
     // all that would be taken, the blank one, and those that are too great
-    let nameless = [(5, 32_547), (6, 1293 + 1 + 123), (8, 119)];
-    assert_eq!(read(NAMELESS), BTreeMap::from(nameless));
+    let nameless = [(5, 49_376), (6, 3501 + 1 + 192), (8, 179)];
+    let all_but_5_and_8_are_6 = |_: &Decimal, due| match due {
+        5 | 8 => due,
+        _ => 6,
+    };
+    assert_eq!(
+        read(NAMELESS, all_but_5_and_8_are_6),
+        BTreeMap::from(nameless)
+    );
 }
 
 #[test]
@@ -86,8 +131,8 @@ fn every_number_is_written_alike() {
     };
     assert_eq!(
         written(accepted, ACCEPTED),
-        BTreeMap::from([(0, 919), (6, 1)])
+        BTreeMap::from([(0, 1361), (6, 1)])
     );
-    assert_eq!(written(login, LOGIN), BTreeMap::from([(0, 920)]));
-    assert_eq!(written(nameless, NAMELESS), BTreeMap::from([(6, 920)]));
+    assert_eq!(written(login, LOGIN), BTreeMap::from([(0, 1362)]));
+    assert_eq!(written(nameless, NAMELESS), BTreeMap::from([(6, 1362)]));
 }

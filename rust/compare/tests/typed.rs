@@ -1,8 +1,9 @@
-//! The typed face: whatever it reads it writes again as it was, and it refuses what the flat face refuses.
+//! The typed face: whatever it reads it writes again as it was, but for noughts before a Soup number, and
+//! it refuses what the flat face refuses.
 
 use compare::dice::Dice;
 use compare::limits::{MEMX, SOUP, TCP, UFO};
-use compare::make;
+use compare::{make, spelling};
 use hinurapay::memx_tcp::{self, LoginReject, Mode, Packet, ReplayReject, StreamReject};
 use hinurapay::{
     flat, memx, soup, ufo, Area, Name, Password, Record, Refusal, Sequence, SessionId, User,
@@ -10,12 +11,14 @@ use hinurapay::{
 
 const CASES: u64 = 20_000;
 
-/// Makes packets, gives them to a typed reader whose answer is written again, and compares.
-fn round_trips(
+/// Makes packets, gives them to a typed reader whose answer is written again, and compares that with
+/// what is due for the packet.
+fn come_back(
     make: fn(&mut Dice) -> Vec<u8>,
     limit: usize,
     again: fn(&[u8], &mut [u8]) -> Result<usize, Refusal>,
     refusal: fn(&[u8]) -> u64,
+    due: fn(&[u8]) -> Vec<u8>,
 ) {
     let mut taken = 0;
     for case in 0..CASES {
@@ -27,21 +30,70 @@ fn round_trips(
         let number = wrote.map_or_else(|refusal| u64::from(refusal.number()), |_| 0);
         assert_eq!(number, refusal(&packet), "{packet:02x?}");
         if let Ok(length) = wrote {
-            assert_eq!(out[..length], packet);
+            assert_eq!(out[..length], due(&packet));
             taken += 1;
         }
     }
     assert!(taken > CASES / 4);
 }
 
+/// The same for packets that come back as they were.
+fn round_trips(
+    make: fn(&mut Dice) -> Vec<u8>,
+    limit: usize,
+    again: fn(&[u8], &mut [u8]) -> Result<usize, Refusal>,
+    refusal: fn(&[u8]) -> u64,
+) {
+    come_back(make, limit, again, refusal, <[u8]>::to_vec);
+}
+
 #[test]
-fn soup_packets_come_back() {
-    round_trips(
+fn soup_packets_come_back_by_their_spelling() {
+    come_back(
         make::soup,
         SOUP,
         |packet, out| soup::write(&soup::read(packet)?, out),
         |packet| flat::hp_soup_read(packet).refusal,
+        spelling,
     );
+}
+
+/// An `A` and an `L` with the number as it is spelt.
+fn numbered(number: &str) -> [Vec<u8>; 2] {
+    [
+        format!("A{:>10}{number:>20}\n", 8841).into_bytes(),
+        format!("L{:<6}{:10}{:>10}{number:>20}\n", 'u', "", 8841).into_bytes(),
+    ]
+}
+
+#[test]
+fn soup_numbers_may_have_noughts_before_them() {
+    let (session, next) = (Name(*b"      8841"), Sequence(42));
+    let login = |next| soup::Packet::Login {
+        user: SOMEBODY,
+        password: Password(*b"          "),
+        session,
+        next,
+    };
+    let packets = [soup::Packet::Accepted { session, next }, login(next)];
+    for number in ["42", "042", "      00000000000042", "00000000000000000042"] {
+        for ((bytes, spelt), packet) in numbered(number).iter().zip(numbered("42")).zip(packets) {
+            assert_eq!(soup::read(bytes), Ok(packet), "{number}");
+            let mut out = vec![0; bytes.len()];
+            assert_eq!(soup::write(&packet, &mut out), Ok(bytes.len()));
+            assert_eq!(out, spelt);
+        }
+    }
+    for number in ["0", "00", "00000000000000000000"] {
+        let [accepted, asked] = numbered(number);
+        assert_eq!(soup::read(&accepted), Err(Refusal::Blank), "{number}");
+        assert_eq!(soup::read(&asked), Ok(login(Sequence(0))), "{number}");
+    }
+    for number in ["0 42", "0                 42", "000000000000000000 0"] {
+        for packet in numbered(number) {
+            assert_eq!(soup::read(&packet), Err(Refusal::Form), "{number}");
+        }
+    }
 }
 
 #[test]

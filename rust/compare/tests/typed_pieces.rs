@@ -10,6 +10,10 @@ const CASES: u64 = 4000;
 
 const ACCEPTED: &[u8] = b"A      8841                   1\n";
 
+/// Logins accepted whose number has noughts before it, or is nothing else.
+const PADDED: &[u8] = b"A      884100000000000000000042\n";
+const NOUGHTS: &[u8] = b"A      884100000000000000000000\n";
+
 /// A login that names no user.
 const NAMELESS: &[u8] = b"L      secret          8841                   1\n";
 
@@ -93,6 +97,23 @@ fn a_session_is_read_with_its_numbers() {
     ];
     assert_eq!(seen, expected);
     assert_eq!(pieces.next_number(), Some(Sequence(4)));
+}
+
+#[test]
+fn a_session_is_counted_from_a_number_with_noughts_before_it() {
+    let mut pieces = Pieces::new();
+    for (bytes, packet, next) in [
+        (NOUGHTS, Err(Refusal::Blank), None),
+        (PADDED, read(PADDED), Some(Sequence(42))),
+    ] {
+        let mut fed = pieces.feed(bytes);
+        let handed = fed.next().unwrap();
+        assert_eq!((handed.bytes, handed.packet), (bytes, packet));
+        drop(fed);
+        assert_eq!(pieces.next_number(), next);
+    }
+    let mut fed = pieces.feed(b"S\n");
+    assert_eq!(fed.next().unwrap().number, Some(Sequence(42)));
 }
 
 #[test]

@@ -38,7 +38,7 @@ pub struct Pieces {
 /// What is handed out: a packet, or one that was refused and is used up all the same.
 #[derive(Clone, Copy, Debug, PartialEq, Eq)]
 pub struct Handed<'a> {
-    /// Its bytes, linefeed and all; of an overlong one the first 4,098.
+    /// Its bytes as they came, linefeed and all; of an overlong one the first 4,098.
     pub bytes: &'a [u8],
     /// The packet, or why it was refused: 2 if it is overlong, 3, 4, 5, 6 and 7 as
     /// [`soup::read`] has it, 16 for an `S` before Login Accepted or a second `A`, 7 for an `S` whose

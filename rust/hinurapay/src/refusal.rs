@@ -42,7 +42,7 @@ refusals! {
     Oversize = 2: "more bytes than a packet, or a message for the log, may have";
     UnknownType = 3: "a type byte that the protocol doesn't have";
     Framing = 4: "too short, too long, a block past the end, bytes left over, or no linefeed at the end";
-    Form = 5: "padding, alphabet, reason code, leading zero or header length";
+    Form = 5: "padding, alphabet, reason code or header length";
     Blank = 6: "blank or zero where something must stand";
     Bound = 7: "a number above its bound";
     Linefeed = 8: "a Soup linefeed before the last byte";

@@ -55,6 +55,23 @@ pub enum Packet<'a> {
 /// assert_eq!(read(b"Shello\n"), Ok(Packet::Sequenced(b"hello")));
 /// assert_eq!(read(b"Shello").unwrap_err().number(), 4);
 /// ```
+///
+/// Noughts between a number's spaces and its digits say nothing; [`write()`] puts spaces for them.
+///
+/// ```
+/// use hinurapay::soup::{read, write, Packet};
+/// use hinurapay::{Name, Sequence};
+///
+/// let accepted = Packet::Accepted {
+///     session: Name(*b"      8841"),
+///     next: Sequence(42),
+/// };
+/// assert_eq!(read(b"A      884100000000000000000042\n"), Ok(accepted));
+/// let mut out = [0; 32];
+/// assert_eq!(write(&accepted, &mut out), Ok(32));
+/// assert_eq!(&out, b"A      8841                  42\n");
+/// assert_eq!(read(&out), Ok(accepted));
+/// ```
 #[inline]
 pub fn read(packet: &[u8]) -> Result<Packet<'_>, Refusal> {
     let read = hp_soup_read(packet);

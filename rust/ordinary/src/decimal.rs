@@ -9,14 +9,11 @@ use crate::words::each;
 /// A word of spaces.
 const BLANK: u64 = each(b' ');
 
-/// The last word of 0.
-const NOUGHT: u64 = u64::from_le_bytes(*b"       0");
-
 /// One more than eight digits can say.
 const EIGHT_DIGITS: u64 = 100_000_000;
 
-/// The number that a field says: spaces, then digits without a leading zero, or it is 5; blank
-/// is 6; above 2^64-1 is 7.
+/// The number that a field says: spaces, then digits, noughts before the others or not; else it is 5.
+/// Blank is 6, above 2^64-1 is 7.
 #[inline]
 pub fn read(field: &[u8; 20]) -> Result<u64, Refusal> {
     let mut rest = &field[..];
@@ -27,7 +24,6 @@ pub fn read(field: &[u8; 20]) -> Result<u64, Refusal> {
     let low = u64::from_le_bytes(take(&mut rest)?);
     match (high, middle, low) {
         (BLANK, BLANK, BLANK) => Err(Refusal::Blank),
-        (BLANK, BLANK, NOUGHT) => Ok(0),
         (BLANK, BLANK, _) => leading(low),
         (BLANK, _, _) => Ok(leading(middle)? * EIGHT_DIGITS + following(low)?),
         _ => {
@@ -40,15 +36,11 @@ pub fn read(field: &[u8; 20]) -> Result<u64, Refusal> {
     }
 }
 
-/// What the word says in which the digits begin, after spaces or at once; a leading zero is 5.
+/// What the word says in which the digits begin, after spaces or at once: spaces count as noughts.
 #[inline]
 fn leading(word: u64) -> Result<u64, Refusal> {
     let padding = (word ^ BLANK).trailing_zeros() & !7;
-    let digits = (word ^ each(b'0')) >> padding;
-    if digits as u8 == 0 {
-        return Err(Refusal::Form);
-    }
-    sum(digits << padding)
+    sum((word ^ each(b'0')) >> padding << padding)
 }
 
 /// What a word of eight digits says.
@@ -69,7 +61,7 @@ fn sum(digits: u64) -> Result<u64, Refusal> {
     Ok(fours.wrapping_mul(10_000 << 32 | 1) >> 32)
 }
 
-/// The number as the field that says it.
+/// The number as the field that says it, no noughts before it.
 pub fn field(number: u64) -> [u8; 20] {
     let mut field = [b' '; 20];
     let mut rest = number;
@@ -95,18 +87,17 @@ mod tests {
         super::read(&padded(text))
     }
 
-    /// What the standard library reads, if it writes the same again.
+    /// What the standard library reads, where there is nothing but digits behind the spaces.
     fn expected(field: &[u8; 20]) -> Result<u64, Refusal> {
         let text = std::str::from_utf8(field).map_err(|_| Refusal::Form)?;
-        let text = text.trim_start_matches(' ');
-        if text.is_empty() {
+        let digits = text.trim_start_matches(' ');
+        if digits.is_empty() {
             return Err(Refusal::Blank);
         }
-        let number: u128 = text.parse().map_err(|_| Refusal::Form)?;
-        if number.to_string() != text {
+        if !digits.bytes().all(|byte| byte.is_ascii_digit()) {
             return Err(Refusal::Form);
         }
-        number.try_into().map_err(|_| Refusal::Bound)
+        digits.parse().map_err(|_| Refusal::Bound)
     }
 
     #[test]
@@ -119,6 +110,28 @@ mod tests {
         }
         assert_eq!(read("18446744073709551615"), Ok(u64::MAX));
         assert_eq!(field(u64::MAX), *b"18446744073709551615");
+    }
+
+    #[test]
+    fn noughts_in_front_change_nothing() {
+        for power in (0..20).map(|place| 10u64.pow(place)) {
+            for number in [power - 1, power, power + 1, power + power / 3] {
+                for width in 0..=20 {
+                    let text = format!("{number:0>width$}");
+                    assert_eq!(read(&text), Ok(number), "{text}");
+                }
+            }
+        }
+        assert_eq!(read("01844674407370955161"), Ok(1844674407370955161));
+        assert_eq!(read("09999999999999999999"), Ok(9999999999999999999));
+    }
+
+    #[test]
+    fn any_number_of_noughts_is_0() {
+        for count in 1..=20 {
+            assert_eq!(read(&"0".repeat(count)), Ok(0), "{count}");
+        }
+        assert_eq!(field(0), padded("0"));
     }
 
     #[test]
@@ -145,6 +158,11 @@ mod tests {
             "9999999999999999999",
             "18446744073709551615",
             "99999999999999999999",
+            "007",
+            "000000007",
+            "00000000012345678",
+            "00000000000000000042",
+            "00000000000000000000",
         ] {
             for place in 0..20 {
                 for byte in 0..=u8::MAX {
@@ -174,12 +192,13 @@ mod tests {
     #[test]
     fn bad_forms_are_5_and_blank_is_6() {
         for text in [
-            "00",
-            "01",
-            "000000000",
-            "012345678",
-            "00000000000000001",
-            "00000000000000000042",
+            "0 ",
+            "0 1",
+            "00 42",
+            "0       1",
+            "0000 00000000",
+            "0                  0",
+            "0000000000000000000 ",
             "1 ",
             "1 2",
             "1        2",
@@ -187,12 +206,12 @@ mod tests {
             "9999999999999999999 ",
             "-1",
             "+1",
+            "-0",
             "1a",
             "1\n",
         ] {
             assert_eq!(read(text), Err(Refusal::Form), "{text:?}");
         }
         assert_eq!(read(""), Err(Refusal::Blank));
-        assert_eq!(read("0"), Ok(0));
     }
 }

@@ -26,7 +26,8 @@
 //! - A block's `start` is where its data begin, past the two length bytes.
 //! - A heartbeat `S`, and any packet whose payload is empty, still says where its blocks or its
 //!   payload would begin; the length is 0.
-//! - The Soup number `00` has a leading zero (5); only `0` itself spells 0.
+//! - A Soup packet that was read and is written again differs at most in its number, which has spaces
+//!   for the noughts before it; of nothing but noughts the last one stays.
 //! - Writing a type that there is not: the packet would be the bytes that every packet of the
 //!   protocol has around the body (UFO 1, an upstream block 3, MEMX-UDP 18 and the extra bytes,
 //!   MEMX-TCP 3, Soup 2), so it is 2 where those and the body are over the limit, else 3.

@@ -15,7 +15,7 @@ pub enum Refusal {
     UnknownType = 3,
     /// Too short, too long, a block past the end, bytes left over, no linefeed at the end.
     Framing = 4,
-    /// Padding, alphabet, reason code, leading zero or header length.
+    /// Padding, alphabet, reason code or header length.
     Form = 5,
     /// Blank or zero where something must stand.
     Blank = 6,

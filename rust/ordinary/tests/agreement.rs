@@ -2,7 +2,9 @@
 
 mod common;
 
-use common::{blocks, extended, memx, memx_data, soup_a, soup_l, take_with, ufo_e, ufo_s, Dice};
+use common::{
+    blocks, extended, memx, memx_data, soup_a, soup_l, spelling, take_with, ufo_e, ufo_s, Dice,
+};
 use ordinary::flat::*;
 use ordinary::kinds::{Name, SessionId};
 use ordinary::record::Record;
@@ -59,7 +61,9 @@ fn specimen(protocol: usize, dice: &mut Dice) -> Vec<u8> {
         "0",
         "1",
         "00",
+        "0 7",
         "42",
+        "00000000000000000042",
         "18446744073709551615",
         "18446744073709551616",
     ]);
@@ -120,11 +124,11 @@ const PROTOCOLS: [(Reader, Writer); 4] = [
 ];
 
 #[test]
-fn whatever_a_reader_takes_is_written_again_as_it_was() {
+fn whatever_a_reader_takes_is_written_again_as_it_was_or_as_it_is_spelt() {
     for (protocol, (read, write)) in PROTOCOLS.into_iter().enumerate() {
         let mut dice = Dice::seeded(protocol as u64);
         let mut seen = [0; 9];
-        let (mut longer, mut jumbo) = (0, 0);
+        let (mut longer, mut jumbo, mut respelt) = (0, 0, 0);
         for _ in 0..10_000 {
             let mut packet = specimen(protocol, &mut dice);
             damage(&mut packet, &mut dice);
@@ -145,19 +149,28 @@ fn whatever_a_reader_takes_is_written_again_as_it_was() {
             };
             longer += usize::from(fields.extra > 0);
             jumbo += usize::from(packet.len() > 1472);
+            let due = if protocol == 3 {
+                spelling(&packet)
+            } else {
+                packet.clone()
+            };
+            respelt += usize::from(due != packet);
             let mut out = vec![0xee; packet.len() + 3];
             let wrote = write(fields, extra, body, &mut out);
             assert_eq!((wrote.refusal, wrote.bytes), (0, packet.len() as u64));
-            assert_eq!(out[..packet.len()], packet);
+            assert_eq!(out[..packet.len()], due);
             assert_eq!(out[packet.len()..], [0xee; 3]);
+            assert_eq!(read(&due), answer);
         }
         assert!(seen[0] > 1000, "only {} were taken", seen[0]);
         let given = [3, 4, 5, 6].map(|refusal| seen[refusal]);
         assert!(given.iter().all(|&times| times > 25), "{seen:?}");
-        // only MEMX-UDP has extra bytes, and packets of more than 1,472
-        let expected = |least| if protocol == 2 { least..10_000 } else { 0..1 };
-        assert!(expected(1000).contains(&longer), "{longer} in {protocol}");
-        assert!(expected(200).contains(&jumbo), "{jumbo} in {protocol}");
+        // only MEMX-UDP has extra bytes, and packets of more than 1,472; only Soup has noughts before
+        // a number
+        let only = |one, least| if protocol == one { least..10_000 } else { 0..1 };
+        assert!(only(2, 1000).contains(&longer), "{longer} in {protocol}");
+        assert!(only(2, 200).contains(&jumbo), "{jumbo} in {protocol}");
+        assert!(only(3, 50).contains(&respelt), "{respelt} in {protocol}");
     }
 }
 

@@ -46,6 +46,7 @@ fn what_a_reader_refuses() {
     let accepted = soup_a("8841", "1");
     let login = soup_l("me", "secret", "8841", "1");
     let twenty_nines = "9".repeat(20);
+    let twenty_noughts = "0".repeat(20);
     let cases: &[(&[u8], u8)] = &[
         (b"", 1),
         (&soup(b'S', &[b'x'; 4097]), 2),
@@ -96,17 +97,19 @@ fn what_a_reader_refuses() {
         (&soup_a("8841", "1 "), 5),
         (&soup_a("8841", "1 1"), 5),
         (&soup_a("8841", "1a"), 5),
-        (&soup_a("8841", "01"), 5),
-        (&soup_a("8841", "00"), 5),
+        (&soup_a("8841", "0 1"), 5),
+        (&soup_a("8841", "00 "), 5),
         (&soup_a("8841", "+1"), 5),
         (&soup_l(" me", "secret", "8841", "1"), 5),
         (&soup_l("me", "se cret", "8841", "1"), 5),
         (&soup_l("me", "secret", "8841 ", "1"), 5),
-        (&soup_l("me", "secret", "8841", "00"), 5),
+        (&soup_l("me", "secret", "8841", "0 42"), 5),
         (&soup_l("me", "secret", "8841", "1."), 5),
         (&soup_a("", "1"), 6),
         (&soup_a("8841", ""), 6),
         (&soup_a("8841", "0"), 6),
+        (&soup_a("8841", "00"), 6),
+        (&soup_a("8841", &twenty_noughts), 6),
         (&soup_l("me", "secret", "8841", ""), 6),
         (&soup_l("", "secret", "8841", "1"), 6),
         (&soup_l("", "", "", "0"), 6),
@@ -124,6 +127,10 @@ fn the_order_is_by_number_over_the_whole_packet() {
     let high = "18446744073709551616";
     for (packet, refusal) in [
         (soup_a("", "1x"), 5),
+        (soup_a("", "0 1"), 5),
+        (soup_a("", "01"), 6),
+        (soup_a("", "00"), 6),
+        (soup_a("8 1", "00"), 5),
         (soup_a("8 1", ""), 5),
         (soup_a("", high), 6),
         (soup_a("8 1", high), 5),
@@ -134,6 +141,8 @@ fn the_order_is_by_number_over_the_whole_packet() {
         (soup_l("", "secret", "8841", ""), 6),
         (soup_l("", "secret", "8841", high), 6),
         (soup_l("", "secret", "8841", "1x"), 5),
+        (soup_l("", "secret", "8841", "0 1"), 5),
+        (soup_l("", "secret", "8841", "01"), 6),
         (soup_l("", "se-cret", "8841", "1"), 5),
         (soup_l("", "secret", "8841 ", "1"), 5),
         (soup_l("", "secret", "8841", "1\n"), 8),
@@ -146,14 +155,16 @@ fn the_order_is_by_number_over_the_whole_packet() {
 /// Passwords, sessions and numbers: lawful, blank, of bad form, with a linefeed, or too great.
 const PASSWORDS: [&str; 6] = ["secret", "", " secret", "se cret", "se-cret", "se\ncret"];
 const SESSIONS: [&str; 6] = ["8841", "", "8841 ", "88 41", "88-41", "88\n41"];
-const NUMBERS: [&str; 9] = [
+const NUMBERS: [&str; 11] = [
     "1",
     "0",
     "18446744073709551615",
+    "01",
+    "00000000000000000000",
     "",
     "18446744073709551616",
     "99999999999999999999",
-    "01",
+    "0 1",
     "1 ",
     "1x",
 ];
@@ -172,8 +183,8 @@ fn a_blank_user_is_6_where_another_would_be_taken_or_the_number_be_too_great() {
             }
         }
     }
-    // two passwords, two sessions; three numbers that are taken, one blank, two too great
-    assert_eq!(seen, [12, 0, 0, 0, 0, 201, 4, 8, 99]);
+    // two passwords, two sessions; five numbers that are taken, one blank, two too great
+    assert_eq!(seen, [20, 0, 0, 0, 0, 243, 4, 8, 121]);
 }
 
 #[test]

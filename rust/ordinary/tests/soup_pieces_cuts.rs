@@ -11,7 +11,8 @@ fn mixed() -> Vec<u8> {
     let overlong = [b'y'; 4100];
     [
         b"S\n\n",
-        &soup_a("8841", "00")[..],
+        &soup_a("8841", "0 1")[..],
+        &soup_a("8841", "00"),
         &soup_a("8841", "18446744073709551612"),
         b"Sone\nH\n+\nX\n",
         &soup(b'S', &[b'x'; 4096]),
@@ -21,7 +22,7 @@ fn mixed() -> Vec<u8> {
         b"Sthree\n",
         &overlong[..4098],
         b"\nS\n\n",
-        &soup_l("me", "secret", "8841", "0"),
+        &soup_l("me", "secret", "8841", "00000000000000000042"),
         &soup_l("", "secret", "8841", "0"),
         b"Unfinished",
     ]
@@ -34,7 +35,8 @@ fn handed_out() -> Vec<Out> {
     vec![
         refused(b"S\n", 16),
         refused(b"\n", 3),
-        refused(&soup_a("8841", "00"), 5),
+        refused(&soup_a("8841", "0 1"), 5),
+        refused(&soup_a("8841", "00"), 6),
         taken(&soup_a("8841", "18446744073709551612"), 0),
         taken(b"Sone\n", u64::MAX - 3),
         taken(b"H\n", 0),
@@ -47,7 +49,7 @@ fn handed_out() -> Vec<Out> {
         refused(&overlong, 2),
         refused(b"S\n", 7),
         refused(b"\n", 3),
-        taken(&soup_l("me", "secret", "8841", "0"), 0),
+        taken(&soup_l("me", "secret", "8841", "00000000000000000042"), 0),
         refused(&soup_l("", "secret", "8841", "0"), 6),
     ]
 }
@@ -83,7 +85,7 @@ fn a_stream_in_pieces_of_every_length() {
 
 #[test]
 fn a_short_stream_cut_in_three_anywhere() {
-    let bytes = [&b"S\n"[..], &soup_a("8841", "9"), b"Sa\n\nSb\nHH\nSc\nS"].concat();
+    let bytes = [&b"S\n"[..], &soup_a("8841", "09"), b"Sa\n\nSb\nHH\nSc\nS"].concat();
     let mut machine = Machine::default();
     let outs = machine.feed(&bytes);
     assert_eq!((outs.len(), machine.state()), (7, (&b"S"[..], false, 12)));
@@ -111,7 +113,7 @@ fn line(dice: &mut Dice) -> Vec<u8> {
         1 => dice.below(10_000),
         _ => dice.below(30),
     };
-    let digits = dice.pick(&["1", "0", "42", "x", "18446744073709551614"]);
+    let digits = dice.pick(&["1", "0", "42", "0042", "x", "18446744073709551614"]);
     match dice.below(8) {
         0 => soup_a(dice.pick(&["8841", "8841", "", "8 1"]), digits),
         1 => soup_l(dice.pick(&["me", "me", ""]), "secret", "8841", digits),

@@ -162,6 +162,20 @@ fn soup_login_accepted() {
 }
 
 #[test]
+fn a_venue_pads_with_noughts() {
+    let accepted = soup::Packet::Accepted {
+        session: Name(*b"      8841"),
+        next: Sequence(42),
+    };
+    let packet = soup_a("8841", "00000000000000000042");
+    assert_eq!(soup::read(&packet), Ok(accepted));
+    assert_eq!(
+        common::written(|slip| soup::write(&accepted, slip)),
+        Ok(soup_a("8841", "42"))
+    );
+}
+
+#[test]
 fn a_session_from_its_first_packet_to_its_last() {
     let (mut record, mut area) = (fresh(), area());
     let mut take = |record: &mut Record, packet: &[u8]| take_into(record, &mut area, packet);

@@ -5,7 +5,7 @@ use borrow.Author.Tests.{ne-eqb, eqb-true, le-leb, leb-true}
 use Rattle.wire.proofs.Tests.{both, held, failed}
 use Rattle.decimal.specs.Decimal.{numberOf}
 use Rattle.decimal.specs.declared.Number.the-variants.{Is}
-use Rattle.decimal.proofs.Ends.{below, stops, misshapen, none, leading, number, of-twenty}
+use Rattle.decimal.proofs.Ends.{below, stops, misshapen, none, number, of-twenty}
 use Rattle.decimal.proofs.read.Statement.{statement}
 use Rattle.decimal.proofs.read.Tie as tie
 
@@ -62,23 +62,12 @@ returns-4 c =
     let e = t .tail-of .ensures in
     sym (none _ _ (t .before .if1 .left) (e .0) (e .1) (held (b .before .are-spaces .ensures) (b .if3 .left)) (c .if4 .taken))
 
-has-leading-zero-requires : tie.Need-has-leading-zero-requires
-has-leading-zero-requires c κs = search needs
-
 returns-5 : tie.Need-returns-5
 returns-5 c =
-    let b = c .before .before .before .before in
+    let b = c .before .before in
     let t = b .before .before .before .before .before .before .before in
     let e = t .tail-of .ensures in
-    sym (leading _ _ (t .before .if1 .left) (e .0) (e .1) (held (b .before .are-spaces .ensures) (b .if3 .left)) (sym (c .before .has-leading-zero .ensures) ∙ c .if5 .taken))
-
-returns-6 : tie.Need-returns-6
-returns-6 c =
-    let b = c .before .before .before .before in
-    let t = b .before .before .before .before .before .before .before in
-    let e = t .tail-of .ensures in
-    let some = pos-of-ne-zero (c .before .before .if4 .left) in
-    ap Is (e .2) ∙ sym (number _ _ (t .before .if1 .left) (e .0) (e .1) (held (b .before .are-spaces .ensures) (b .if3 .left)) some (sym (c .before .has-leading-zero .ensures) ∙ c .if5 .left))
+    ap Is (e .2) ∙ sym (number _ _ (t .before .if1 .left) (e .0) (e .1) (held (b .before .are-spaces .ensures) (b .if3 .left)) (pos-of-ne-zero (c .if4 .left)))
 
 pub read-spec : {M : Type 1} → statement M
 read-spec =
@@ -94,6 +83,4 @@ read-spec =
     are-spaces-requires
     returns-3
     returns-4
-    has-leading-zero-requires
-    returns-5
-    returns-6)
+    returns-5)

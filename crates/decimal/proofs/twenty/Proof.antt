@@ -1,8 +1,8 @@
 use Prim.Native.Nat.{_+_, _-_, _*_, _^_, _≤_}
 use mathlib.Core.Path.{_≡_}
-use native.Mathlib.Nat.{one-mul}
+use native.Mathlib.Nat.{zero-mul, one-mul, zero-add}
 use native.Mathlib.Omega.{arith}
-use borrow.Author.Tests.{eq-eqb, ne-eqb, le-leb, lt-leb, eqb-true, leb-true}
+use borrow.Author.Tests.{le-leb, lt-leb, eqb-true, leb-true}
 use Rattle.wire.proofs.Tests.{both}
 use Rattle.decimal.proofs.Ends.{over}
 use borrow.Author.Needs.{needs}
@@ -14,7 +14,9 @@ taken : (c : tie.Then2) → (c .before .before .args .d ≡ 1) × (c .before .be
 taken c = let p = both _ _ (c .if2 .taken) in (eqb-true _ 1 (p .0), leb-true _ _ (p .1))
 
 returns : tie.Need-returns
-returns c = rw (eq-eqb _ 0 (c .if1 .taken))
+returns c =
+    let a = c .before .args in
+    rw (c .if1 .taken, zero-mul, zero-add, le-leb (a .n) (2 ^ 64 - 1) (omega arith))
 
 array-read-if2 : tie.Need-array-read-if2
 array-read-if2 c = search needs
@@ -37,7 +39,7 @@ returns-3 : tie.Need-returns-3
 returns-3 c =
     let b = c .before in
     let a = b .before .args in
-    rw (ne-eqb (a .d) 0 (b .if1 .left), lt-leb (a .d * 10 ^ 19 + a .n) (2 ^ 64 - 1) (over (a .d) (a .n) (b .if1 .left) (c .if2 .left)))
+    rw (lt-leb (a .d * 10 ^ 19 + a .n) (2 ^ 64 - 1) (over (a .d) (a .n) (b .if1 .left) (c .if2 .left)))
 
 pub twenty-spec : {M : Type 1} → statement M
 twenty-spec =

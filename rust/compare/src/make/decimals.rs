@@ -13,34 +13,42 @@ pub type Decimal = [u8; 20];
 /// The least number that is too great.
 const ABOVE: u128 = 1 << 64;
 
-/// The list: of each length the least number, the greatest and one between, as they are and with
-/// 0, 9, a space and a bad character at each place; zeros, alone and before 42; all about 2^64.
+/// The list: of each length the least number, the greatest and one between, behind every number of
+/// noughts that there is room for; behind none of them, and behind as many as there can be, also with
+/// 0, 9, a space and a bad character at each place; noughts, alone and before 42; all about 2^64.
 pub static DECIMALS: LazyLock<Vec<Decimal>> = LazyLock::new(|| {
     let mut listed = BTreeSet::from([spelt(""), spelt("9".repeat(20))]);
     for length in 1..=20 {
         let least = 10u64.pow(length - 1);
         let greatest = least.checked_mul(10).map_or(u64::MAX, |above| above - 1);
         for number in [least, least + (greatest - least) / 7 * 3, greatest] {
-            listed.insert(spelt(number));
+            listed.extend((1..=20).map(|digits| padded(number, digits)));
             for place in 0..20 {
                 listed.extend(b"09 x".map(|byte| with(spelt(number), place, byte)));
+                listed.extend(b"09 x".map(|byte| with(padded(number, 20), place, byte)));
             }
         }
-        let length = length as usize;
-        listed.extend([0, 42].map(|number| spelt(format!("{number:0>length$}"))));
+        listed.extend([0, 42].map(|number| padded(number, length as usize)));
     }
     listed.extend((ABOVE - 20..ABOVE + 20).map(spelt));
     listed.into_iter().collect()
 });
 
-/// The lawful numbers of the list.
-pub static DECIMAL_NUMBERS: LazyLock<Vec<u64>> =
-    LazyLock::new(|| DECIMALS.iter().filter_map(said).collect());
+/// The numbers that the list says.
+pub static DECIMAL_NUMBERS: LazyLock<Vec<u64>> = LazyLock::new(|| {
+    let numbers: BTreeSet<u64> = DECIMALS.iter().filter_map(said).collect();
+    numbers.into_iter().collect()
+});
 
 /// The field that ends with this, spaces before it.
 pub fn spelt(number: impl Display) -> Decimal {
     let field = format!("{number:>20}").into_bytes();
     field.try_into().expect("at most twenty characters")
+}
+
+/// The number's field with noughts before it, up to so many digits.
+pub fn padded(number: u64, digits: usize) -> Decimal {
+    spelt(format!("{number:0>digits$}"))
 }
 
 /// The field with another byte at a place.
@@ -49,11 +57,11 @@ pub fn with(mut field: Decimal, place: usize, byte: u8) -> Decimal {
     field
 }
 
-/// The number that a field says, if it is spelt as that number is.
-fn said(field: &Decimal) -> Option<u64> {
-    let text = str::from_utf8(field).ok()?;
-    let number: u64 = text.trim_start_matches(' ').parse().ok()?;
-    (spelt(number) == *field).then_some(number)
+/// The number that a field says, if it says one.
+pub fn said(field: &Decimal) -> Option<u64> {
+    let digits = str::from_utf8(field).ok()?.trim_start_matches(' ');
+    let lawful = digits.bytes().all(|byte| byte.is_ascii_digit());
+    digits.parse().ok().filter(|_| lawful)
 }
 
 /// A number to be spelt, half of the time one of the list.
@@ -65,17 +73,52 @@ pub fn decimal_number(dice: &mut Dice) -> u64 {
     }
 }
 
+/// A number as a venue may spell it: half of the time behind as many noughts as there is room for, or
+/// behind fewer.
+pub fn spelt_somehow(number: u64, dice: &mut Dice) -> Decimal {
+    let length = number.to_string().len();
+    match dice.below(8) {
+        0..=3 => spelt(number),
+        4 => padded(number, 20),
+        _ => padded(number, length + dice.below(21 - length)),
+    }
+}
+
 /// A number as it stands in a packet, mostly a lawful one.
 pub fn decimal(dice: &mut Dice) -> Decimal {
     let field = match dice.below(40) {
         0 => spelt(""),
         1..=4 => spelt(ABOVE - 20 + dice.below(40) as u128),
         5..=9 => dice.pick(&DECIMALS),
-        _ => spelt(decimal_number(dice)),
+        _ => spelt_somehow(decimal_number(dice), dice),
     };
     if dice.one_in(10) {
         with(field, dice.below(20), dice.pick(b" \n0129/:x"))
     } else {
         field
+    }
+}
+
+#[cfg(test)]
+mod tests {
+    use super::*;
+
+    #[test]
+    fn a_number_is_spaces_and_then_digits() {
+        for (field, number) in [
+            ("42", Some(42)),
+            ("00000000000000000042", Some(42)),
+            ("      00000000000042", Some(42)),
+            ("00000000000000000000", Some(0)),
+            ("18446744073709551615", Some(u64::MAX)),
+            ("18446744073709551616", None),
+            ("", None),
+            ("42 ", None),
+            ("0 42", None),
+            ("+42", None),
+            ("-0", None),
+        ] {
+            assert_eq!(said(&spelt(field)), number, "{field:?}");
+        }
     }
 }

@@ -1,7 +1,7 @@
 //! Soup streams: lines that are packets, lawful, damaged or overlong, and how a stream stands between
 //! two pieces, mostly so that it hangs together.
 
-use super::{damage, flag, near, number, soup, spelt, without_linefeeds};
+use super::{damage, flag, near, number, soup, spelt_somehow, without_linefeeds};
 use crate::both::blank;
 use crate::dice::Dice;
 use hinurapay::flat::hp_pieces;
@@ -71,7 +71,10 @@ pub fn stream(dice: &mut Dice) -> Vec<u8> {
 pub fn line(dice: &mut Dice) -> Vec<u8> {
     let mut line = match dice.below(10) {
         0..=3 => message(dice),
-        4 => [b"A      8841", &spelt(next(dice).max(1))[..], b"\n"].concat(),
+        4 => {
+            let number = spelt_somehow(next(dice).max(1), dice);
+            [b"A      8841", &number[..], b"\n"].concat()
+        }
         5 if dice.one_in(3) => long(dice),
         6 if dice.one_in(4) => b"\n".to_vec(),
         _ => soup(dice),

@@ -119,6 +119,44 @@ static void soup_login(void) {
     CHECK(hp_soup_read(login, 48).refusal == 5);
 }
 
+/* a packet is read as number 42, and written again it is this spelling, which is read alike */
+static void padded(const char *packet, const char *spelt) {
+    size_t length = strlen(packet);
+    hp_read read = hp_soup_read((const uint8_t *)packet, length), again;
+    CHECK(read.refusal == 0 && read.packet.type == packet[0] && read.packet.number == 42);
+    clear();
+    CHECK(wrote(hp_soup_write(read.packet, NULL, 0, out, length), spelt, length));
+    again = hp_soup_read(out, length);
+    CHECK(again.refusal == 0 && again.packet.type == packet[0] && again.packet.number == 42);
+    CHECK(memcmp(again.packet.user, read.packet.user, 6) == 0 && memcmp(again.packet.password, read.packet.password, 10) == 0);
+    CHECK(memcmp(again.packet.name, read.packet.name, 10) == 0);
+    CHECK(wrote(hp_soup_write(again.packet, NULL, 0, out, length), spelt, length));
+}
+
+/* noughts before a number, behind spaces or alone; a space behind a nought is 5 */
+static void noughts(void) {
+    static const char accept[] = "A      8841" "                  42\n", login[] = "Lu     secret          8841" "                  42\n";
+    padded("A      8841" "00000000000000000042\n", accept);
+    padded("A      8841" "      00000000000042\n", accept);
+    padded("Lu     secret          8841" "00000000000000000042\n", login);
+    padded("Lu     secret          8841" "                0042\n", login);
+    padded(login, login);
+
+    uint8_t packet[] = "A      8841" "00000000000000000000\n";
+    hp_read read = hp_soup_read(packet, 32);
+    CHECK(read.refusal == 6 && read.packet.type == 0 && read.packet.number == 0);
+    packet[29] = '1';
+    CHECK(hp_soup_read(packet, 32).packet.number == 10);
+    packet[20] = ' ';
+    CHECK(hp_soup_read(packet, 32).refusal == 5);
+
+    uint8_t latest[] = "Lu     secret          8841" "00000000000000000000\n";
+    read = hp_soup_read(latest, 48);
+    CHECK(read.refusal == 0 && read.packet.type == 'L' && read.packet.number == 0);
+    latest[1] = ' ';
+    CHECK(hp_soup_read(latest, 48).refusal == 6);
+}
+
 /* the buffer of a stream, which holds FRESH wherever nothing was laid */
 enum { LONGEST = 4098 };
 static uint8_t buffer[LONGEST + 2];
@@ -192,11 +230,14 @@ static void refused_pieces(void) {
     CHECK(used_up(UINT64_MAX, "S\n", 7) && used_up(0, "A      884118446744073709551616\n", 7));
     CHECK(used_up(1, "\n", 3) && used_up(1, "Hx\n", 4) && used_up(1, "JX\n", 5) && used_up(1, "A                             7\n", 6));
     CHECK(used_up(1, "L      secret          8841                   7\n", 6)); /* no user */
+    CHECK(used_up(0, "A      884100000000000000000000\n", 6) && used_up(0, "A      8841000 0000000000000007\n", 5));
     keep("", 0);
     hp_piece fed = feed((hp_pieces){0, 0, UINT64_MAX - 1}, "S\n", 0);
     CHECK(fed.what == 1 && fed.number == UINT64_MAX - 1 && stands(fed.pieces, 0, 0, UINT64_MAX));
     fed = feed((hp_pieces){0, 0, 0}, "A      884118446744073709551615\n", 0);
     CHECK(fed.what == 1 && stands(fed.pieces, 0, 0, UINT64_MAX));
+    fed = feed((hp_pieces){0, 0, 0}, "A      884100000000000000000042\n", 0);
+    CHECK(fed.what == 1 && fed.packet.number == 42 && stands(fed.pieces, 0, 0, 42));
 
     hp_pieces given = {2, 0, 3};
     keep("Sa", 2);
@@ -771,6 +812,7 @@ static void lending(void) {
 int main(void) {
     soup();
     soup_login();
+    noughts();
     pieces();
     refused_pieces();
     overlong_piece();

@@ -153,6 +153,20 @@ pub fn soup_l(user: &str, password: &str, session: &str, number: &str) -> Vec<u8
     format!("L{user:<6}{password:<10}{session:>10}{number:>20}\n").into_bytes()
 }
 
+/// The one way in which a Soup packet that is taken is written again: a space for each nought before
+/// its number, up to the last digit.
+pub fn spelling(packet: &[u8]) -> Vec<u8> {
+    let mut spelling = packet.to_vec();
+    let number = match packet[0] {
+        b'A' => &mut spelling[11..30],
+        b'L' => &mut spelling[27..46],
+        _ => &mut [],
+    };
+    let padding = number.iter_mut().take_while(|byte| b" 0".contains(byte));
+    padding.for_each(|byte| *byte = b' ');
+    spelling
+}
+
 /// Users, and how a login with a blank password and session is refused for each (0: not at all).
 pub const USERS: [(&str, u8); 9] = [
     ("", 6),
