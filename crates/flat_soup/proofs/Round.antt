@@ -71,18 +71,18 @@ flat-again soup.logout f = (refl, λ room. refl)
 
 -- a body is no part of what is spelt anew: a packet that has one has no number
 module _ (d : List ℕ) where
-  carried-stays : (kind : ℕ) (s : List ℕ) (p : Packet) → line kind s ≡ spelling d → kind is 65 ≡ false → kind is 76 ≡ false → bodyOf p (spelling d) ≡ bodyOf p d
-  carried-stays kind s p w a l = ap (bodyOf p) (unspelt d kind (sym (same-type d) ∙ ap (λ (x : List ℕ). getD x 0 0) (sym w)) a l)
+  numberless : (kind : ℕ) (s : List ℕ) → line kind s ≡ spelling d → kind is 65 ≡ false → kind is 76 ≡ false → spelling d ≡ d
+  numberless kind s w = unspelt d kind (sym (same-type d) ∙ ap (λ (x : List ℕ). getD x 0 0) (sym w))
 
   body-stays : (q : soup.Packet) → write q ≡ spelling d → let p = flatSoup (packetOf q) .packet in bodyOf p (spelling d) ≡ bodyOf p d
-  body-stays (soup.debug text) w = carried-stays 43 text (flatSoup (packetOf (soup.debug text)) .packet) w refl refl
+  body-stays (soup.debug text) w = rw (numberless 43 text w refl refl)
   body-stays (soup.accept session number) w = refl
   body-stays (soup.reject reason) w = refl
-  body-stays (soup.sequenced message) w = carried-stays 83 message (flatSoup (packetOf (soup.sequenced message)) .packet) w refl refl
+  body-stays (soup.sequenced message) w = rw (numberless 83 message w refl refl)
   body-stays soup.serverHeartbeat w = refl
   body-stays soup.endOfSession w = refl
   body-stays (soup.login user password session number) w = refl
-  body-stays (soup.unsequenced message) w = carried-stays 85 message (flatSoup (packetOf (soup.unsequenced message)) .packet) w refl refl
+  body-stays (soup.unsequenced message) w = rw (numberless 85 message w refl refl)
   body-stays soup.clientHeartbeat w = refl
   body-stays soup.logout w = refl
 

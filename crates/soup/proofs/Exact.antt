@@ -186,8 +186,8 @@ module _ (d : List ℕ) (b : Bytes d) (o : Passed (opening d)) (p : Packet) wher
     λ u. ap (λ (x : List ℕ). before ++ x ++ 10 ∷ []) (written-read s l f (not-true (blank s) e) u) ∙ all,
   )
 
-  within : (n : ℕ) → leb n (2 ^ 64 - 1) ≡ true → n < 2 ^ 64
-  within n h = omega (arith, leb-true n (2 ^ 64 - 1) h)
+  bounded : (n : ℕ) → leb n (2 ^ 64 - 1) ≡ true → n < 2 ^ 64
+  bounded n h = omega (arith, leb-true n (2 ^ 64 - 1) h)
 
   accepted : eqb (getD d 0 0) 65 ≡ true → readAccept d ≡ taken p → Lawful
   unfolding Fit spelling padded
@@ -204,7 +204,7 @@ module _ (d : List ℕ) (b : Bytes d) (o : Passed (opening d)) (p : Packet) wher
       let n = numbered (65 ∷ session) number 11 (omega arith) i all (r .1 .0) (r .1 .1 .1 .0) in
       let z = eqb-false (valueOf number) 0 (not-true (eqb (valueOf number) 0) (r .1 .1 .1 .1 .0)) in
       rw (← a .same) (
-        ((m, r .0), not-true (blank session) (r .1 .1 .0), omega arith, within (valueOf number) (r .1 .1 .1 .1 .1 .0)),
+        ((m, r .0), not-true (blank session) (r .1 .1 .0), omega arith, bounded (valueOf number) (r .1 .1 .1 .1 .1 .0)),
         rw k (n .0),
         λ u. n .1 (rw k at u),
       )
@@ -231,7 +231,7 @@ module _ (d : List ℕ) (b : Bytes d) (o : Passed (opening d)) (p : Packet) wher
           (length-part 1 6 d (omega arith), r .0),
           (length-part 7 10 d (omega arith), r .1 .0),
           (length-part 17 10 d (omega arith), r .1 .1 .0),
-          within (valueOf number) (r .1 .1 .1 .1 .1 .1 .0),
+          bounded (valueOf number) (r .1 .1 .1 .1 .1 .1 .0),
           not-true (blank user) (r .1 .1 .1 .1 .0),
         ),
         rw k (n .0),

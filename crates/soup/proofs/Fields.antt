@@ -11,32 +11,32 @@ use Rattle.decimal.specs.Decimal.{valueOf}
 use Rattle.soup.specs.Packet.{Packet, accept, login}
 use Rattle.soup.specs.Read.{opening, field, sizedChecks, acceptChecks, loginChecks, acceptOf, loginOf, readAccept, readLogin, byType, read}
 
--- a line of n bytes that was taken as p, which is this packet, by these checks of its fields
-pub record Held (d : List ℕ) (p : Packet) (n : ℕ) (cs : List Check) (packet : Packet) : Type 0 where
+-- a line of n bytes that was read as p, which is this packet, by these checks of its fields
+pub record ReadBy (d : List ℕ) (p : Packet) (n : ℕ) (cs : List Check) (packet : Packet) : Type 0 where
   pub size : length d ≡ n
   pub passed : Passed cs
   pub same : packet ≡ p
 
 module _ (d : List ℕ) (p : Packet) where
   abbrev pub Accepted : Type 0
-  Accepted = Held d p 32 (acceptChecks (field 1 10 d) (field 11 20 d)) (accept (field 1 10 d) (valueOf (field 11 20 d)))
+  Accepted = ReadBy d p 32 (acceptChecks (field 1 10 d) (field 11 20 d)) (accept (field 1 10 d) (valueOf (field 11 20 d)))
 
   abbrev pub LoggedIn : Type 0
-  LoggedIn = Held d p 48 (loginChecks (field 1 6 d) (field 7 10 d) (field 17 10 d) (field 27 20 d)) (login (field 1 6 d) (field 7 10 d) (field 17 10 d) (valueOf (field 27 20 d)))
+  LoggedIn = ReadBy d p 48 (loginChecks (field 1 6 d) (field 7 10 d) (field 17 10 d) (field 27 20 d)) (login (field 1 6 d) (field 7 10 d) (field 17 10 d) (valueOf (field 27 20 d)))
 
-  held : (n : ℕ) (cs : List Check) (packet : Packet) → checked (sizedChecks n d) (checked cs (taken packet)) ≡ taken p → Held d p n cs packet
-  held n cs packet e =
+  read-by : (n : ℕ) (cs : List Check) (packet : Packet) → checked (sizedChecks n d) (checked cs (taken packet)) ≡ taken p → ReadBy d p n cs packet
+  read-by n cs packet e =
       let sized = all-passed (sizedChecks n d) (checked cs (taken packet)) p e in
       let r = all-passed cs (taken packet) p (sized .1) in
       record { size = eqb-true (length d) n (sized .0 .0); passed = r .0; same = taken-same packet p (r .1) }
 
   pub accept-taken : readAccept d ≡ taken p → Accepted
   unfolding acceptOf
-  accept-taken = held 32 (acceptChecks (field 1 10 d) (field 11 20 d)) (accept (field 1 10 d) (valueOf (field 11 20 d)))
+  accept-taken = read-by _ _ _
 
   pub login-taken : readLogin d ≡ taken p → LoggedIn
   unfolding loginOf
-  login-taken = held 48 (loginChecks (field 1 6 d) (field 7 10 d) (field 17 10 d) (field 27 20 d)) (login (field 1 6 d) (field 7 10 d) (field 17 10 d) (valueOf (field 27 20 d)))
+  login-taken = read-by _ _ _
 
   -- what was read by its type
   typed : (kind : ℕ) → getD d 0 0 ≡ kind → read d ≡ taken p → byType kind d ≡ taken p
