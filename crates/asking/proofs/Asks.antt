@@ -34,7 +34,8 @@ pub record Requests (r : Record) (first count : ℕ) (after : Record) : Type 0 w
   pub unheld : (k : ℕ) → first ≤ k → k < first + count → isHeld (r .held) (r .next .0) k ≡ false
   pub changes : after ≡ askedNow r
 
-wishes : (r : Record) (late : Bool) (first count : ℕ) (after : Record) → wish r late ≡ request first count after → (r .next .0 ≤ r .top .0) × (requestOf r ≡ request first count after)
+wishes : (r : Record) (late : Bool) (first count : ℕ) (after : Record) → wish r late ≡ request first count after → (r .next .0 ≤ r .top .0)
+    × (requestOf r ≡ request first count after)
 unfolding wish
 wishes r late first count after e =
     by-test (leb (r .next .0) (r .top .0))
@@ -46,7 +47,8 @@ wishes r late first count after e =
 
 module _ (r : Record) (s : Sheet) (p : Patience) (elapsed : Float) where
   -- A request names what is missing from N on, and nothing of the record changes but A.
-  pub requests : (first count : ℕ) (after : Record) → asking r s p elapsed ≡ taken (request first count after) → Requests r first count after
+  pub requests : (first count : ℕ) (after : Record) → asking r s p elapsed ≡ taken (request first count after)
+      → Requests r first count after
   unfolding asking requestOf
   requests first count after e =
       let c = all-passed ((hangs r else 10) ∷ []) (waitOver s p elapsed into λ late. taken (wish r late)) (request first count after) e in
@@ -74,7 +76,8 @@ module _ (r : Record) (s : Sheet) (p : Patience) (elapsed : Float) where
   asking-hangs first count after e =
       let q = requests first count after e in
       let h = hanging r (q .hangs) in
-      rw (q .changes) (hangs-so (askedNow r) (record { begun = h .begun; near = h .near; old = omega arith; bound = h .bound; named = h .named; placed = h .placed }))
+      rw (q .changes) (hangs-so (askedNow r)
+      (record { begun = h .begun; near = h .near; old = omega arith; bound = h .bound; named = h .named; placed = h .placed }))
 
   module _ (h : hangs r ≡ true) (late : Bool) (e : waitOver s p elapsed ≡ taken late) where
     -- Nothing is asked if nothing is missing.

@@ -14,7 +14,8 @@ use Rattle.record.specs.declared.Record.{Record}
 use Rattle.asking.specs.Asking.{wish, asking}
 
 module _ (r : Record) (s : Sheet) (p : Patience) (elapsed : Float) where
-  pub asking-checks : asking r s p elapsed ≡ checked ((hangs r else 10) ∷ waitOverChecks s p elapsed) (taken (wish r (past (waitUnder s p) elapsed)))
+  pub asking-checks : asking r s p elapsed ≡ checked ((hangs r else 10) ∷ waitOverChecks s p elapsed)
+      (taken (wish r (past (waitUnder s p) elapsed)))
   unfolding asking
   asking-checks = rw (into-checked (waitOverChecks s p elapsed) (taken (past (waitUnder s p) elapsed)) (λ late. taken (wish r late)))
 

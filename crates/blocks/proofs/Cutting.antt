@@ -12,8 +12,10 @@ use lib.Dec.{eqb}
 use Rattle.wire.specs.Fields.{Bytes}
 use Rattle.wire.proofs.Tests.{by-test, impossible}
 use Rattle.wire.proofs.Width.{bytes-drop}
-use Rattle.blocks.specs.Blocks.{frames, stated, there, first, rest, Cut, torn, whole, cut, cutFull, upstream, isWhole, messagesOf, Each, Short, Full}
-use Rattle.blocks.proofs.Frames.{length-frames, short-frames, front-stated, front-there, front-first, front-rest, length-first, framed-again, bytes-first}
+use Rattle.blocks.specs.Blocks.{frames, stated, there, first, rest, Cut, torn, whole, cut, cutFull, upstream, isWhole, messagesOf}
+use Rattle.blocks.specs.Blocks.{Each, Short, Full}
+use Rattle.blocks.proofs.Frames.{length-frames, short-frames, front-stated, front-there, front-first, front-rest, length-first}
+use Rattle.blocks.proofs.Frames.{framed-again, bytes-first}
 
 -- what is torn is not whole
 pub not-torn : {C : Type 0} (q : Cut) (ms : List (List ℕ)) → q ≡ torn → q ≡ whole ms → C
@@ -43,7 +45,8 @@ stepped n s ms e = by (there s) refl (cut n (rest s)) refl where
       let w : cut (suc n) s ≡ whole (first s ∷ os) = rw (t, f) refl in
       record { is-there = t; others = os; are = ap messagesOf (sym e ∙ w); cuts = f }
 
-pub frames-cut : (n : ℕ) (s : List ℕ) (ms : List (List ℕ)) → Bytes s → cut n s ≡ whole ms → (frames ms ≡ s) × (length ms ≡ n) × Each Bytes ms
+pub frames-cut : (n : ℕ) (s : List ℕ) (ms : List (List ℕ)) → Bytes s → cut n s ≡ whole ms → (frames ms ≡ s) × (length ms ≡ n)
+    × Each Bytes ms
 unfolding cut frames
 frames-cut zero [] ms b e =
     let none : ms ≡ [] = ap messagesOf (sym e) in
@@ -63,7 +66,16 @@ full-frames (suc n) (m ∷ ms) l h f =
     let t = frames ms in
     let k = length-frames m ms in
     let some : (length (frames (m ∷ ms)) ≡ 0) → ⊥ = λ e. omega arith in
-    rw (ne-eqb (length (frames (m ∷ ms))) 0 some, front-there m t (h .0), front-first m t (h .0), front-rest m t (h .0), front-stated m t (h .0), ne-eqb (length m) 0 (λ e. omega arith), full-frames n ms (omega arith) (h .1) (f .1))
+    rw (
+      ne-eqb (length (frames (m ∷ ms))) 0 some,
+      front-there m t (h .0),
+      front-first m t (h .0),
+      front-rest m t (h .0),
+      front-stated m t
+          (h .0),
+      ne-eqb (length m) 0 (λ e. omega arith),
+      full-frames n ms (omega arith) (h .1) (f .1),
+    )
 
 pub upstream-frames : (ms : List (List ℕ)) → 0 < length ms → Each Short ms → Each Full ms → upstream (frames ms) ≡ whole ms
 upstream-frames [] l h f = absurd (not-suc-le-zero l)
@@ -76,12 +88,14 @@ module _ (n : ℕ) (s : List ℕ) (ms : List (List ℕ)) where
   -- what a whole turn says: nothing is left, or a block that is not empty and whole ones after it
   pub data Turned : Type 0 where
     done : length s ≡ 0 → ms ≡ [] → Turned
-    more : there s ≡ true → (stated s ≡ 0 → ⊥) → (others : List (List ℕ)) → ms ≡ first s ∷ others → cutFull n (rest s) ≡ whole others → Turned
+    more : there s ≡ true → (stated s ≡ 0 → ⊥) → (others : List (List ℕ)) → ms ≡ first s ∷ others → cutFull n (rest s) ≡ whole others
+        → Turned
 
   turned : cutFull (suc n) s ≡ whole ms → Turned
   unfolding cutFull
   turned e = by (eqb (length s) 0) refl (there s) refl (eqb (stated s) 0) refl (cutFull n (rest s)) refl where
-    by : (a : Bool) → eqb (length s) 0 ≡ a → (b : Bool) → there s ≡ b → (c : Bool) → eqb (stated s) 0 ≡ c → (q : Cut) → cutFull n (rest s) ≡ q → Turned
+    by : (a : Bool) → eqb (length s) 0 ≡ a → (b : Bool) → there s ≡ b → (c : Bool) → eqb (stated s) 0 ≡ c → (q : Cut)
+        → cutFull n (rest s) ≡ q → Turned
     by true x b y c z q f =
         let w : cutFull (suc n) s ≡ whole [] = rw x refl in
         done (eqb-true (length s) 0 x) (ap messagesOf (sym e ∙ w))
@@ -96,11 +110,13 @@ no-bytes : (s : List ℕ) → length s ≡ 0 → [] ≡ s
 no-bytes [] h = refl
 no-bytes (x ∷ s) h = absurd (omega arith)
 
-pub frames-full : (n : ℕ) (s : List ℕ) (ms : List (List ℕ)) → Bytes s → cutFull n s ≡ whole ms → (frames ms ≡ s) × Each Full ms × Each Bytes ms
+pub frames-full : (n : ℕ) (s : List ℕ) (ms : List (List ℕ)) → Bytes s → cutFull n s ≡ whole ms → (frames ms ≡ s) × Each Full ms
+    × Each Bytes ms
 unfolding cutFull frames
 frames-full zero s ms b e = not-torn torn ms refl e
 frames-full (suc n) s ms b e = by (turned n s ms e) (frames-full n (rest s)) where
-  by : Turned n s ms → ((os : List (List ℕ)) → Bytes (rest s) → cutFull n (rest s) ≡ whole os → (frames os ≡ rest s) × Each Full os × Each Bytes os) → (frames ms ≡ s) × Each Full ms × Each Bytes ms
+  by : Turned n s ms → ((os : List (List ℕ)) → Bytes (rest s) → cutFull n (rest s) ≡ whole os → (frames os ≡ rest s) × Each Full os
+      × Each Bytes os) → (frames ms ≡ s) × Each Full ms × Each Bytes ms
   by (done z none) ih = rw none (no-bytes s z, tt, tt)
   by (more t z os are f) ih =
       let r = ih os (bytes-drop (2 + stated s) s b) f in
@@ -108,7 +124,8 @@ frames-full (suc n) s ms b e = by (turned n s ms e) (frames-full n (rest s)) whe
       let some : 0 < length (first s) = rw l (pos-of-ne-zero z) in
       rw are (rw (r .0) (framed-again s t b), (some, r .1), (bytes-first s b, r .2))
 
-pub frames-upstream : (s : List ℕ) (ms : List (List ℕ)) → Bytes s → upstream s ≡ whole ms → (frames ms ≡ s) × (0 < length ms) × Each Full ms × Each Bytes ms
+pub frames-upstream : (s : List ℕ) (ms : List (List ℕ)) → Bytes s → upstream s ≡ whole ms → (frames ms ≡ s) × (0 < length ms) × Each Full ms
+    × Each Bytes ms
 unfolding frames
 frames-upstream s ms b e =
     by-test (eqb (length s) 0)

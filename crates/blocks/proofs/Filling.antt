@@ -11,7 +11,7 @@ use lib.ListN.{length}
 use Rattle.wire.specs.Checks.{Verdict, refused, taken}
 use Rattle.wire.proofs.Tests.{by-test}
 use Rattle.blocks.specs.Blocks.{fills, endAt, placeAfter}
-use Rattle.blocks.proofs.Steps.{fills-step, fills-torn, fills-end, place-step, place-torn, place-here, place-past}
+use Rattle.blocks.proofs.NextBlock.{fills-step, fills-torn, fills-end, place-step, place-torn, place-here, place-past}
 
 -- the place is the very end
 abbrev pub atEnd : List ℕ → Verdict ℕ → Bool

@@ -9,7 +9,7 @@ use lib.Seq.{drop-drop}
 use Rattle.wire.proofs.Width.{length-part}
 use Rattle.blocks.specs.Blocks.{stated, first, endAt, blockAt}
 use Rattle.blocks.specs.declared.Block.the-variants as block
-use Rattle.blocks.proofs.Steps.{found, block-fits}
+use Rattle.blocks.proofs.NextBlock.{found, block-fits}
 
 module _ (s : List ℕ) (p start size next : ℕ) where
   -- its own bytes
@@ -30,4 +30,11 @@ module _ (s : List ℕ) (p start size next : ℕ) where
       let g = block-fits s p (stated (drop p s)) (endAt s p) refl refl (f .2) in
       let b : start ≡ p + 2 = cc (e, g) in
       let t : next - start ≡ stated (drop p s) = omega arith in
-      record { begins = b; states = f .1; ends = f .0; inside = omega arith; long = length-part start (next - start) s (omega arith) ∙ t ∙ sym (f .1); same = rw (t, b, drop-drop) refl }
+      record {
+        begins = b;
+        states = f .1;
+        ends = f .0;
+        inside = omega arith;
+        long = length-part start (next - start) s (omega arith) ∙ t ∙ sym (f .1);
+        same = rw (t, b, drop-drop) refl;
+      }

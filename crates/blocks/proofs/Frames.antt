@@ -10,7 +10,8 @@ use lib.ListN.{length, drop, length-append, take-append-drop}
 use lib.Seq.{sets, drop-drop, take-at, drop-at}
 use lib.Dec.{eqb}
 use Rattle.wire.specs.Fields.{bytesOf, Bytes}
-use Rattle.wire.proofs.Width.{be-bytesOf, bytesOf-be, bytes-bytesOf, bytes-drop, bytes-take, bytes-append, length-bytesOf, length-part, part-again, sets-after}
+use Rattle.wire.proofs.Width.{be-bytesOf, bytesOf-be, bytes-bytesOf, bytes-drop, bytes-take, bytes-append, length-bytesOf, length-part}
+use Rattle.wire.proofs.Width.{part-again, sets-after}
 use Rattle.blocks.specs.Blocks.{frame, frames, stated, there, first, rest, Each, Short}
 
 pub length-frame : (m : List ℕ) → length (frame m) ≡ 2 + length m

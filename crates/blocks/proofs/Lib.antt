@@ -1,4 +1,4 @@
-pub mod Steps
+pub mod NextBlock
 pub mod Found
 pub mod Frames
 pub mod Places

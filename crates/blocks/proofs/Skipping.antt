@@ -14,10 +14,11 @@ use Rattle.wire.specs.Fields.{Bytes}
 use Rattle.wire.proofs.Tests.{by-test}
 use Rattle.wire.proofs.Checks.{not-both}
 use Rattle.wire.proofs.Width.{bytes-drop}
-use Rattle.blocks.specs.Blocks.{frame, frames, stated, first, torn, whole, cut, messagesOf, endAt, blockAt, placeAfter, placeOf, Each, Short}
+use Rattle.blocks.specs.Blocks.{frame, frames, stated, first, torn, whole, cut, messagesOf, endAt, blockAt, placeAfter, placeOf, Each}
+use Rattle.blocks.specs.Blocks.{Short}
 use Rattle.blocks.specs.declared.Block.the-variants as block
 use Rattle.blocks.specs.declared.Place.the-variants as place
-use Rattle.blocks.proofs.Steps.{block-fits, place-step, place-torn, place-here, place-past, rest-at}
+use Rattle.blocks.proofs.NextBlock.{block-fits, place-step, place-torn, place-here, place-past, rest-at}
 use Rattle.blocks.proofs.Frames.{length-frames, length-frame, front-stated, length-first}
 use Rattle.blocks.proofs.Places.{each-at, placed, placed-next, frames-around}
 use Rattle.blocks.proofs.Cutting.{not-torn, stepped, frames-cut}
@@ -34,7 +35,13 @@ pub stepped-at : (n : ℕ) (s : List ℕ) (p : ℕ) (ms : List (List ℕ)) → c
 stepped-at n s p ms e =
     let t = stepped n (drop p s) ms e in
     let q = leb-true (2 + stated (drop p s)) (length (drop p s)) (t .is-there) in
-    record { inside = omega (arith, length-drop p s); ends = rw (length-first (drop p s) (t .is-there)); others = t .others; are = t .are; cuts = rw (← rest-at s p) (t .cuts) }
+    record {
+      inside = omega (arith, length-drop p s);
+      ends = rw (length-first (drop p s) (t .is-there));
+      others = t .others;
+      are = t .are;
+      cuts = rw (← rest-at s p) (t .cuts);
+    }
 
 -- where no block is left, none stands
 pub none-at : (s : List ℕ) (p : ℕ) (ms : List (List ℕ)) → cut 0 (drop p s) ≡ whole ms → (ms ≡ []) × (length s < endAt s p)
@@ -62,13 +69,19 @@ skipped (suc k) zero s p ms h e l = absurd (not-suc-le-zero l)
 skipped (suc k) (suc n) s p ms h e l =
     let t = stepped-at n s p ms e in
     let more = skipped k n s (endAt s p) (t .others) (t .inside) (t .cuts) (omega arith) in
-    let same : past p (suc k) ms ≡ past (endAt s p) k (t .others) = ap (past p (suc k)) (t .are) ∙ omega (arith, t .ends, length-frames (first (drop p s)) (take k (t .others))) in
+    let same : past p (suc k) ms ≡ past (endAt s p) k (t .others) = ap (past p (suc k)) (t .are)
+    ∙ omega (arith, t .ends, length-frames (first (drop p s)) (take k (t .others))) in
     let fewer : suc n - suc k ≡ n - k = omega arith in
     let left : drop (suc k) ms ≡ drop k (t .others) = ap (drop (suc k)) (t .are) in
-    record { place = place-step s p k (t .inside) ∙ rw same (more .place); inside = rw same (more .inside); others = rw (fewer, same, left) (more .others) }
+    record {
+      place = place-step s p k (t .inside) ∙ rw same (more .place);
+      inside = rw same (more .inside);
+      others = rw (fewer, same, left) (more .others);
+    }
 
 -- the raw bytes from there on are the blocks of the others
-pub skipped-bytes : (k n : ℕ) (s : List ℕ) (p : ℕ) (ms : List (List ℕ)) → Bytes s → p ≤ length s → cut n (drop p s) ≡ whole ms → k ≤ n → drop (past p k ms) s ≡ frames (drop k ms)
+pub skipped-bytes : (k n : ℕ) (s : List ℕ) (p : ℕ) (ms : List (List ℕ)) → Bytes s → p ≤ length s → cut n (drop p s) ≡ whole ms → k ≤ n
+    → drop (past p k ms) s ≡ frames (drop k ms)
 skipped-bytes k n s p ms b h e l =
     sym (frames-cut (n - k) (drop (past p k ms) s) (drop k ms) (bytes-drop (past p k ms) s b) (skipped k n s p ms h e l .others) .0)
 

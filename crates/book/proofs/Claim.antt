@@ -21,7 +21,8 @@ sampled : Says samples
 sampled = (clock.samples .0, clock.waits .0, (clock.samples .1, clock.waits .1, (clock.samples .2, clock.waits .2, tt)))
 
 pub all-hold : All book
-unfolding be bytesOf letterOrDigit blank textThenSpaces frames cut cutFull read readS readE readUp readEach readMessage readT memx.read memx.readNews memx.readMessages every inPlace hangs standing
+unfolding be bytesOf letterOrDigit blank textThenSpaces frames cut cutFull read readS readE readUp readEach readMessage readT memx.read
+    memx.readNews memx.readMessages every inPlace hangs standing
 all-hold =
     refl
     and refl

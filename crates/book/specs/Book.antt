@@ -106,7 +106,8 @@ book =
     ∷ down (bytesOf 7 0x53_FFFFFFFF_0000) (taken (messages (2 ^ 32 - 1) []))
     ∷ up (bytesOf 9 0x0007_54_00000003_0002) (taken (request 3 2 ∷ []))
     ∷ memx (bytesOf 18 0x00_12_0000000000000001_0000000000000000) (taken (broadcast.heartbeat 1 0 []))
-    ∷ memx (bytesOf 25 0x02_13_0000000000000001_0000000000000006_AB_0001_0002_4849) (taken (broadcast.messages 1 6 (bytesOf 1 0xAB) (hi ∷ [])))
+    ∷ memx (bytesOf 25 0x02_13_0000000000000001_0000000000000006_AB_0001_0002_4849)
+    (taken (broadcast.messages 1 6 (bytesOf 1 0xAB) (hi ∷ [])))
     ∷ soup (bytesOf 32 0x41_20202020202038383431_2020202020202020202020202020202020202031_0A) (taken (accept padded 1))
     ∷ soup (bytesOf 32 0x41_20202020202038383431_2020202020202020202020202020202020202020_0A) (refused 6)
     ∷ unheard s8841 ongoing

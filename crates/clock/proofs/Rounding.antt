@@ -29,7 +29,8 @@ plus t = absurd (false≢true t)
 pub round-upto : (s : Bool) (a b c : ℕ) → 0 < c → b ≤ 2 ^ 53 → a ≤ b * c → (s ≡ true → a ≡ 0) → Upto b (round binary64 s a c)
 round-upto false a b c C B h z =
     let x = round binary64 false a c in
-    of-between x b B (and-i (le (whole 0) x) (le x (whole b)) (round-mono binary64 0 1 a c (lit< tt) C (omega arith)) (round-mono binary64 a c b 1 C (lit< tt) (omega arith)))
+    of-between x b B (and-i (le (whole 0) x) (le x (whole b)) (round-mono binary64 0 1 a c (lit< tt) C (omega arith))
+    (round-mono binary64 a c b 1 C (lit< tt) (omega arith)))
 round-upto true a b c C B h z =
     subst (λ (k : ℕ). Upto b (round binary64 true k c)) (sym (z refl))
     (minus-zero (round binary64 true 0 c) b c C (round-exact binary64 true 0 c 0 0 C (lit< tt) (lit< tt) (sym (zero-mul c))))
@@ -38,7 +39,8 @@ neg-units : (q k : ℕ) → neg (units binary64 true q k) ≡ units binary64 fal
 unfolding neg units odd
 neg-units q k = go q (ltb (q * 2 ^ k) (2 ^ (low binary64 + suc (emax binary64))))
   where
-    go : (q : ℕ) (t : Bool) → neg (cond t (odd 54 true q k (low binary64)) (inf true)) ≡ cond t (odd 54 false q k (low binary64)) (inf false)
+    go : (q : ℕ) (t : Bool) → neg (cond t (odd 54 true q k (low binary64)) (inf true)) ≡ cond t (odd 54 false q k (low binary64))
+        (inf false)
     go zero true = refl
     go (suc q) true = refl
     go q false = refl
@@ -49,7 +51,8 @@ neg-round a c = ap neg (round-is binary64 true a c) ∙ neg-units _ _ ∙ sym (r
 -- ---- a product, a sum, a distance
 
 -- times a weight w, where w a ≤ b
-pub mul-upto : (p : ℕ) (d : ℤ) (x : Float) (a b : ℕ) → b ≤ 2 ^ 53 → p * up d * a ≤ b * down d → Upto a x → Upto b (mul binary64 (fin false p d) x)
+pub mul-upto : (p : ℕ) (d : ℤ) (x : Float) (a b : ℕ) → b ≤ 2 ^ 53 → p * up d * a ≤ b * down d → Upto a x
+    → Upto b (mul binary64 (fin false p d) x)
 unfolding mul
 mul-upto p d nan a b B k h = absurd h
 mul-upto p d (inf s) a b B k h = absurd h
@@ -65,7 +68,8 @@ cond-upto : (t : Bool) (x y : Float) (b : ℕ) → Upto b x → Upto b y → Upt
 cond-upto true x y b h k = h
 cond-upto false x y b h k = k
 
-sum-upto : (s t : Bool) (m n c b : ℕ) → 0 < c → b ≤ 2 ^ 53 → m + n ≤ b * c → (s ≡ true → m ≡ 0) → (t ≡ true → n ≡ 0) → Upto b (sum binary64 s m t n c)
+sum-upto : (s t : Bool) (m n c b : ℕ) → 0 < c → b ≤ 2 ^ 53 → m + n ≤ b * c → (s ≡ true → m ≡ 0) → (t ≡ true → n ≡ 0)
+    → Upto b (sum binary64 s m t n c)
 unfolding sum
 sum-upto false false m n c b C B h y z = round-upto false (m + n) b c C B h plus
 sum-upto true true m n c b C B h y z = round-upto true (m + n) b c C B h (λ t. omega (arith, y t, z t))
@@ -91,13 +95,15 @@ add-upto (fin s m e) (inf t) a b B h k = absurd k
 add-upto (fin s m e) (fin t n d) a b B h k =
     let p = signed s m e a (down d) h in
     let q = signed t n d b (down e) k in
-    sum-upto s t (m * up e * down d) (n * up d * down e) (down e * down d) (a + b) (mul-pos (down-pos e) (down-pos d)) B (omega (arith, p .0, q .0)) (p .1) (q .1)
+    sum-upto s t (m * up e * down d) (n * up d * down e) (down e * down d) (a + b) (mul-pos (down-pos e) (down-pos d)) B
+    (omega (arith, p .0, q .0)) (p .1) (q .1)
 
 pub half-upto : (x : Float) (b : ℕ) → b ≤ 2 ^ 53 → Upto b x → Upto b (div binary64 x (whole 2))
 unfolding div round
 half-upto nan b B h = absurd h
 half-upto (inf s) b B h = absurd h
-half-upto (fin true m e) b B h = let p = signed true m e b 1 h in round-upto true (m * up e * 1) b (2 * down e) (mul-pos (lit< tt) (down-pos e)) B (omega (arith, p .1 refl)) (p .1)
+half-upto (fin true m e) b B h = let p = signed true m e b 1 h in round-upto true (m * up e * 1) b (2 * down e)
+    (mul-pos (lit< tt) (down-pos e)) B (omega (arith, p .1 refl)) (p .1)
 half-upto (fin false m e) b B h = round-upto false (m * up e * 1) b (2 * down e) (mul-pos (lit< tt) (down-pos e)) B (omega arith) plus
 
 -- d or its opposite is a number from 0 to b
@@ -107,7 +113,8 @@ Near b d = Upto b d ⊎ Upto b (neg d)
 negative : (a b c : ℕ) → 0 < c → b ≤ 2 ^ 53 → a ≤ b * c → Near b (round binary64 true a c)
 negative a b c C B h = inr (subst (Upto b) (sym (neg-round a c)) (round-upto false a b c C B h plus))
 
-difference : (s t : Bool) (m n c b : ℕ) → 0 < c → b ≤ 2 ^ 53 → m ≤ b * c → n ≤ b * c → (s ≡ true → m ≡ 0) → (t ≡ true → n ≡ 0) → Near b (sum binary64 s m (not t) n c)
+difference : (s t : Bool) (m n c b : ℕ) → 0 < c → b ≤ 2 ^ 53 → m ≤ b * c → n ≤ b * c → (s ≡ true → m ≡ 0) → (t ≡ true → n ≡ 0)
+    → Near b (sum binary64 s m (not t) n c)
 unfolding sum
 difference false false m n c b C B h k y z = go (ltb m n)
   where
@@ -153,4 +160,5 @@ apart-upto (fin s m e) (fin t n d) b B h k =
     let p = signed s m e b (down d) h in
     let q = signed t n d b (down e) k in
     absolute (sub binary64 (fin s m e) (fin t n d)) b
-    (difference s t (m * up e * down d) (n * up d * down e) (down e * down d) b (mul-pos (down-pos e) (down-pos d)) B (p .0) (omega (arith, q .0)) (p .1) (q .1))
+    (difference s t (m * up e * down d) (n * up d * down e) (down e * down d) b (mul-pos (down-pos e) (down-pos d)) B (p .0)
+    (omega (arith, q .0)) (p .1) (q .1))

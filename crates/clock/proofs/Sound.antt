@@ -27,7 +27,8 @@ weighed-upto : (p : ℕ) (d : ℤ) (a : ℕ) (q : ℕ) (e : ℤ) (b : ℕ) (x y 
     → a + b ≤ 2 ^ 53 → p * up d * 60000 ≤ a * down d → q * up e * 60000 ≤ b * down e
     → Upto 60000 x → Upto 60000 y → Upto (a + b) (weighed (fin false p d) x (fin false q e) y)
 weighed-upto p d a q e b x y B v w h k =
-    add-upto (mul binary64 (fin false p d) x) (mul binary64 (fin false q e) y) a b B (mul-upto p d x 60000 a (omega arith) v h) (mul-upto q e y 60000 b (omega arith) w k)
+    add-upto (mul binary64 (fin false p d) x) (mul binary64 (fin false q e) y) a b B (mul-upto p d x 60000 a (omega arith) v h)
+    (mul-upto q e y 60000 b (omega arith) w k)
 
 -- 0.875 is 7 / 8, and 0.125 is 1 / 8
 mean-upto : (m r : Float) → Upto 60000 m → Upto 60000 r → Upto 60000 (weighed (decimal 875 1000) m (decimal 125 1000) r)
@@ -42,7 +43,8 @@ spread-upto s d h k = weighed-upto 3 (negsuc 1) 45000 1 (negsuc 1) 15000 s d (li
 both : (m d : Float) → Upto 60000 m → Upto 60000 d → T (sound (record { mean = m; spread = d; timed = true }))
 both m d h k = and-i (lawful m) (lawful d) (upto-lawful m h) (upto-lawful d k)
 
-kept : (m d : Float) (t : Bool) (r : Float) → T (sound (record { mean = m; spread = d; timed = t })) → Upto 60000 r → T (sound (smoothed (record { mean = m; spread = d; timed = t }) r))
+kept : (m d : Float) (t : Bool) (r : Float) → T (sound (record { mean = m; spread = d; timed = t })) → Upto 60000 r
+    → T (sound (smoothed (record { mean = m; spread = d; timed = t }) r))
 unfolding smoothed
 kept m d true r h k =
     let M = lawful-upto m (and-l (lawful m) (lawful d) h) in
@@ -53,4 +55,5 @@ kept m d true r h k =
 kept m d false r h k = both r (div binary64 r (whole 2)) k (half-upto r 60000 (lit≤ tt) k)
 
 pub stays-sound : (s : Sheet) (r : Float) → sound s ≡ true → lawful r ≡ true → sound (smoothed s r) ≡ true
-stays-sound s r h k = is-true (sound (smoothed s r)) (kept (s .mean) (s .spread) (s .timed) r (passes (sound s) h) (lawful-upto r (passes (lawful r) k)))
+stays-sound s r h k = is-true (sound (smoothed s r))
+    (kept (s .mean) (s .spread) (s .timed) r (passes (sound s) h) (lawful-upto r (passes (lawful r) k)))

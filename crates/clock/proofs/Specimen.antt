@@ -35,6 +35,7 @@ samples = (refl, refl, refl)
 abbrev wide : Patience
 wide = Measured (whole 1) (whole 60000)
 
-pub waits : (waiting first wide ≡ taken (some (whole 300))) × (waiting second wide ≡ taken (some (whole 285))) × (waiting third wide ≡ taken (some (decimal 2375 10)))
+pub waits : (waiting first wide ≡ taken (some (whole 300))) × (waiting second wide ≡ taken (some (whole 285)))
+    × (waiting third wide ≡ taken (some (decimal 2375 10)))
 unfolding add mul le lt round
 waits = (refl, refl, refl)

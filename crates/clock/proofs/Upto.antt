@@ -64,13 +64,18 @@ inside (inf false) nan b v h k = absurd v
 inside (inf false) (inf t) b v h k = absurd v
 inside (inf false) (fin t n d) b v h k = absurd k
 inside (fin true m e) y b v h k =
-    let z : 0 * down e ≡ m * up e * 1 = eqb→eq (0 * down e) (m * up e * 1) (and-l (eqb (0 * down e) (m * up e * 1)) (eqb (0 * down e) 0) h) in
+    let z : 0 * down e ≡ m * up e * 1 = eqb→eq (0 * down e) (m * up e * 1) (and-l (eqb (0 * down e) (m * up e * 1)) (eqb (0 * down e) 0) h)
+    in
     first-zero m (up e) (up-pos e) (omega arith)
 inside (fin false m e) nan b v h k = absurd v
 inside (fin false m e) (inf t) b v h k = absurd v
 inside (fin false m e) (fin true n d) b v h k = absurd (true≢false (v .0))
 inside (fin false m e) (fin false n d) b v h k =
-    omega (arith, transfer (m * up e) b (down e) 1 (m * up e) (n * up d) (down e) (down d) (down-pos e) (down-pos d) refl (sym (v .1)) (at-most (m * up e * down d) (n * up d * down e) k))
+    omega (
+      arith,
+      transfer (m * up e) b (down e) 1 (m * up e) (n * up d) (down e) (down d) (down-pos e) (down-pos d) refl (sym (v .1))
+          (at-most (m * up e * down d) (n * up d * down e) k),
+    )
 
 from-zero : (x : Float) (b : ℕ) → Upto b x → T (le (whole 0) x)
 unfolding le round
@@ -79,7 +84,8 @@ from-zero (inf s) b h = absurd h
 from-zero (fin true m e) b h =
     let z : 0 * down e ≡ m * up e * 1 = omega (arith, ap (λ (k : ℕ). k * up e) h) in
     and-i (eqb (0 * down e) (m * up e * 1)) (eqb (0 * down e) 0) (eq→eqb z) (eq→eqb (zero-mul (down e)))
-from-zero (fin false m e) b h = le-of-values (whole 0) (fin false m e) 0 1 (m * up e) (down e) (lit< tt) (down-pos e) (refl, refl) (refl, refl) (omega arith)
+from-zero (fin false m e) b h = le-of-values (whole 0) (fin false m e) 0 1 (m * up e) (down e) (lit< tt) (down-pos e) (refl, refl)
+    (refl, refl) (omega arith)
 
 up-to : (x y : Float) (b : ℕ) → HasValue y false b 1 → Upto b x → T (le x y)
 unfolding le
@@ -89,11 +95,13 @@ up-to (fin s m e) nan b v h = absurd v
 up-to (fin s m e) (inf t) b v h = absurd v
 up-to (fin s m e) (fin true n d) b v h = absurd (true≢false (v .0))
 up-to (fin true m e) (fin false n d) b v h = negative-first (m * up e * down d) (n * up d * down e)
-up-to (fin false m e) (fin false n d) b v h = le-of-values (fin false m e) (fin false n d) (m * up e) (down e) b 1 (down-pos e) (lit< tt) (refl, refl) v (omega arith)
+up-to (fin false m e) (fin false n d) b v h = le-of-values (fin false m e) (fin false n d) (m * up e) (down e) b 1 (down-pos e) (lit< tt)
+    (refl, refl) v (omega arith)
 
 -- f64 holds every whole number up to 2 ^ 53
 pub of-between : (x : Float) (b : ℕ) → b ≤ 2 ^ 53 → T (between (whole 0) x (whole b)) → Upto b x
-of-between x b B h = inside x (whole b) b (round-whole binary64 false b B) (and-l (le (whole 0) x) (le x (whole b)) h) (and-r (le (whole 0) x) (le x (whole b)) h)
+of-between x b B h = inside x (whole b) b (round-whole binary64 false b B) (and-l (le (whole 0) x) (le x (whole b)) h)
+    (and-r (le (whole 0) x) (le x (whole b)) h)
 
 pub to-between : (x : Float) (b : ℕ) → b ≤ 2 ^ 53 → Upto b x → T (between (whole 0) x (whole b))
 to-between x b B h = and-i (le (whole 0) x) (le x (whole b)) (from-zero x b h) (up-to x (whole b) b (round-whole binary64 false b B) h)

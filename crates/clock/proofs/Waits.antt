@@ -81,7 +81,8 @@ clamp-between floor ceiling w h n = go (lt w floor) (lt ceiling w) (total w floo
     c : T (not (isNan floor)) × T (not (isNan ceiling))
     c = numbers floor ceiling h
 
-    go : (p q : Bool) → (T (not p) → T (le floor w)) → (T (not q) → T (le w ceiling)) → T (between floor (if p then floor else if q then ceiling else w) ceiling)
+    go : (p q : Bool) → (T (not p) → T (le floor w)) → (T (not q) → T (le w ceiling))
+        → T (between floor (if p then floor else if q then ceiling else w) ceiling)
     go true q f g = and-i (le floor floor) (le floor ceiling) (same floor (c .0)) h
     go false true f g = and-i (le floor ceiling) (le ceiling ceiling) h (same ceiling (c .1))
     go false false f g = and-i (le floor w) (le w ceiling) (f tt) (g tt)
@@ -90,7 +91,8 @@ measured-counts : (s : Sheet) → T (sound s) → T (not (isNan (measured s)))
 unfolding round isNan
 measured-counts s h = go (s .mean) (s .spread) (s .timed) h
   where
-    go : (m d : Float) (t : Bool) → T (sound (record { mean = m; spread = d; timed = t })) → T (not (isNan (measured (record { mean = m; spread = d; timed = t }))))
+    go : (m d : Float) (t : Bool) → T (sound (record { mean = m; spread = d; timed = t }))
+        → T (not (isNan (measured (record { mean = m; spread = d; timed = t }))))
     go m d true h =
         counted (measured (record { mean = m; spread = d; timed = true })) 300000
         (add-upto m (mul binary64 (whole 4) d) 60000 240000 (lit≤ tt)
@@ -103,4 +105,5 @@ pub wait-between : (s : Sheet) (floor ceiling : Float) → sound s ≡ true → 
 wait-between s floor ceiling h k =
     let r = and-r (lt (whole 0) floor) (between floor ceiling (whole 60000)) (passes (inRange (Measured floor ceiling)) k) in
     is-true (between floor (clamped floor ceiling (measured s)) ceiling)
-    (clamp-between floor ceiling (measured s) (and-l (le floor ceiling) (le ceiling (whole 60000)) r) (measured-counts s (passes (sound s) h)))
+    (clamp-between floor ceiling (measured s) (and-l (le floor ceiling) (le ceiling (whole 60000)) r)
+    (measured-counts s (passes (sound s) h)))

@@ -44,7 +44,8 @@ filled [] h e = absurd (not-suc-le-zero h)
 filled (b ∷ t) h e = rw (no-space b t e)
 
 -- Spaces or none, and then digits, whatever the first of them: the field is the number that they spell.
-pub spaces-then-digits : (a t : List ℕ) → length (a ++ t) ≡ 20 → blank a ≡ true → digits t ≡ true → 0 < length t → numberOf (a ++ t) ≡ fitted (spelt t)
+pub spaces-then-digits : (a t : List ℕ) → length (a ++ t) ≡ 20 → blank a ≡ true → digits t ≡ true → 0 < length t
+    → numberOf (a ++ t) ≡ fitted (spelt t)
 unfolding numberOf wellFormed valueOf
 spaces-then-digits a t l f d h =
     rw (l, trimmed-spaces a t f, trimmed-digits t d, d, blank-append a t, f, filled t h d)
@@ -119,7 +120,8 @@ module _ (s : List ℕ) (k : ℕ) (l : length s ≡ 20) (h : k ≤ 19) (d : digi
         ∙ rw (le-leb (spelt (drop (20 - k) s)) (2 ^ 64 - 1) (omega (arith, below)))
 
 -- Where the digits stop: the character before them is none, also where all nineteen are digits and the first of the twenty isn't.
-pub stops : (s : List ℕ) (k d : ℕ) → k ≤ 19 → (k < 19 → digit (getD s (19 - k) 0) ≡ false) → digit (getD s 0 0) ≡ leb d 9 → (k is 19) && (d atMost 9) ≡ false → digit (getD s (19 - k) 0) ≡ false
+pub stops : (s : List ℕ) (k d : ℕ) → k ≤ 19 → (k < 19 → digit (getD s (19 - k) 0) ≡ false) → digit (getD s 0 0) ≡ leb d 9
+    → (k is 19) && (d atMost 9) ≡ false → digit (getD s (19 - k) 0) ≡ false
 stops s k d h f g e =
     by-test (k is 19)
     (λ t.
@@ -134,7 +136,8 @@ pub record Turn (s : List ℕ) (k d n p : ℕ) : Type 0 where
   pub sum : n + d * p ≡ spelt (drop (20 - (k + 1)) s)
   pub fits : n + d * p < 2 ^ 64
 
-pub turn : (s : List ℕ) (k d n p : ℕ) → length s ≡ 20 → k < 19 → digits (drop (20 - k) s) ≡ true → n ≡ spelt (drop (20 - k) s) → digit (getD s (19 - k) 0) ≡ leb d 9 → (d ≤ 9 → d ≡ getD s (19 - k) 0 - 48) → d ≤ 9 → p ≡ 10 ^ k → Turn s k d n p
+pub turn : (s : List ℕ) (k d n p : ℕ) → length s ≡ 20 → k < 19 → digits (drop (20 - k) s) ≡ true → n ≡ spelt (drop (20 - k) s)
+    → digit (getD s (19 - k) 0) ≡ leb d 9 → (d ≤ 9 → d ≡ getD s (19 - k) 0 - 48) → d ≤ 9 → p ≡ 10 ^ k → Turn s k d n p
 turn s k d n p l h a e f g u q =
     let here : 19 - k < length s = omega arith in
     let after : 19 - k + 1 ≡ 20 - k = omega arith in
@@ -152,7 +155,8 @@ turn s k d n p l h a e f g u q =
 
 -- ---- a field of twenty digits
 
-pub of-twenty : (s : List ℕ) (d n : ℕ) → length s ≡ 20 → digit (getD s 0 0) ≡ true → d ≡ getD s 0 0 - 48 → digits (drop 1 s) ≡ true → n ≡ spelt (drop 1 s) → numberOf s ≡ fitted (d * 10 ^ 19 + n)
+pub of-twenty : (s : List ℕ) (d n : ℕ) → length s ≡ 20 → digit (getD s 0 0) ≡ true → d ≡ getD s 0 0 - 48 → digits (drop 1 s) ≡ true
+    → n ≡ spelt (drop 1 s) → numberOf s ≡ fitted (d * 10 ^ 19 + n)
 unfolding blank
 of-twenty s d n l e f g v =
     let all : digits s ≡ true = digit-step s 0 (omega arith) e ∙ g in

@@ -4,6 +4,6 @@ pub mod Written
 pub mod Stored
 pub mod Spaces
 pub mod Ends
-pub mod Told
+pub mod ReadAs
 pub mod Noughts
 mod Settled

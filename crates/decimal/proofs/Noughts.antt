@@ -1,4 +1,5 @@
--- Noughts in front of a number's digits count for nothing: a field that is padded with them is the same number as one that is padded with spaces.
+-- Noughts in front of a number's digits count for nothing: a field that is padded with them is the same number as one that is padded with
+-- spaces.
 -- Assumes nothing.
 use Prim.Native.Nat.{ℕ, zero, suc, _+_, _-_, _^_, _≤_, _<_}
 use mathlib.Core.Path.{_≡_, refl, sym, _∙_}

@@ -3,7 +3,8 @@
 use Prim.Native.Nat.{ℕ, zero, suc, _+_, _-_, _/_, _%_, _^_, _≤_, _<_}
 use mathlib.Core.Path.{_≡_, sym, ap, _∙_}
 use mathlib.Core.List.{List, _∷_, _++_}
-use native.Mathlib.Nat.{zero-add, suc-add, one-mul, mul-comm, pow-succ', pow-le-pow-right, pos-of-ne-zero, div-one, div-div-eq-div-mul, div-lt-iff-lt-mul, le-div-iff-mul-le}
+use native.Mathlib.Nat.{zero-add, suc-add, one-mul, mul-comm, pow-succ', pow-le-pow-right, pos-of-ne-zero, div-one, div-div-eq-div-mul}
+use native.Mathlib.Nat.{div-lt-iff-lt-mul, le-div-iff-mul-le}
 use native.Mathlib.Omega.{arith}
 use lib.Dec.{leb}
 use lib.ListN.{replicate, set}
@@ -47,7 +48,8 @@ module _ (n i rest : ℕ) (h : i ≤ 19) (r : rest ≡ n / 10 ^ (20 - i)) where
     reaches : 10 ^ (20 - i) ≤ n
     reaches = rw one-mul at (le-div-iff-mul-le (ten-pos (20 - i)) .0 (rw r at (pos-of-ne-zero p)))
 
-    pub next-stored : (j v : ℕ) → i ≡ suc j → v ≡ 48 + rest % 10 → set (replicate i 32 ++ places (20 - i) n) j v ≡ replicate j 32 ++ places (20 - j) n
+    pub next-stored : (j v : ℕ) → i ≡ suc j → v ≡ 48 + rest % 10 → set (replicate i 32 ++ places (20 - i) n) j v ≡ replicate j 32
+        ++ places (20 - j) n
     next-stored j v e w =
         let place : 20 - j ≡ suc (20 - i) = omega arith in
         let here : v ≡ character n (20 - i) = w ∙ rw r (sym (reached (20 - i) n reaches)) in

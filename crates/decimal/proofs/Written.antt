@@ -4,7 +4,8 @@ use Prim.Native.Nat.{ℕ, zero, suc, _+_, _-_, _*_, _/_, _%_, _^_, _≤_, _<_}
 use mathlib.Core.Path.{_≡_, refl, sym, ap, _∙_}
 use mathlib.Core.List.{List, [], _∷_}
 use mathlib.Core.Bool.{true, false, _&&_, and-false}
-use native.Mathlib.Nat.{mod-lt, mod-one, mod-eq-of-lt, pow-succ', pow-le-pow-right, le-div-iff-mul-le, div-lt-iff-lt-mul, mul-add-div-right, mul-add-mod-self-right, mul-assoc, one-mul, mul-le-mul-right, le-trans}
+use native.Mathlib.Nat.{mod-lt, mod-one, mod-eq-of-lt, pow-succ', pow-le-pow-right, le-div-iff-mul-le, div-lt-iff-lt-mul, mul-add-div-right}
+use native.Mathlib.Nat.{mul-add-mod-self-right, mul-assoc, one-mul, mul-le-mul-right, le-trans}
 use native.Mathlib.Omega.{arith}
 use lib.Arith.{mod-mul, digits-div, digits-lt}
 use lib.Dec.{eqb, leb}
@@ -163,7 +164,8 @@ plain-spelt (b ∷ s) e =
     rw (digits-div (b - 48) (spelt-lt s r), mod-eq-of-lt (small b s e), w, plain-shift (length s) (b - 48) (spelt s), plain-spelt s r)
 
 -- digits that don't begin with a 0, or a digit alone, are as many as their number has
-no-gap : (b : ℕ) (s : List ℕ) → 2 atMost length (b ∷ s) && b is 48 ≡ false → digits (b ∷ s) ≡ true → places (length (b ∷ s)) (spelt (b ∷ s)) ≡ b ∷ s
+no-gap : (b : ℕ) (s : List ℕ) → 2 atMost length (b ∷ s) && b is 48 ≡ false → digits (b ∷ s) ≡ true
+    → places (length (b ∷ s)) (spelt (b ∷ s)) ≡ b ∷ s
 unfolding places character spelt
 no-gap b [] z e = plain-spelt (b ∷ []) e
 no-gap b (x ∷ s) z e =
@@ -186,7 +188,8 @@ some [] e = let z : _≡_ {A = ℕ} 0 1 = cc in omega arith
 some (b ∷ s) e = by-test (eqb b 32) (λ t. rw t (some s (rw t at e))) (λ t. rw t (omega arith))
 
 -- a well-formed field with a space more in front
-one-more-space : (s : List ℕ) → wellFormed s ≡ true → blank s ≡ false → places (suc (length s)) (valueOf s) ≡ 32 ∷ places (length s) (valueOf s)
+one-more-space : (s : List ℕ) → wellFormed s ≡ true → blank s ≡ false → places (suc (length s)) (valueOf s) ≡ 32 ∷ places (length s)
+    (valueOf s)
 unfolding places wellFormed valueOf
 one-more-space s f e =
     let l : spelt (trimmed s) < 10 ^ length (trimmed s) = spelt-lt (trimmed s) f in

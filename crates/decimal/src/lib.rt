@@ -57,7 +57,9 @@ struct Tail {
 // can't come to over 2^64-1. The table is taken before the loop: inside it would be laid out anew at each digit.
 fn tail_of(s: &[u8]) -> Tail
     requires { ⌜ length (now s) ≡ 20 ⌝ }
-    ensures { λ r. ⌜ (r .count ≤ 19) × (digits (drop (20 - r .count) (now (s .entry))) ≡ true) × (r .value ≡ spelt (drop (20 - r .count) (now (s .entry)))) × (r .count < 19 → digit (getD (now (s .entry)) (19 - r .count) 0) ≡ false) ⌝ }
+    ensures { λ r. ⌜ (r .count ≤ 19) × (digits (drop (20 - r .count) (now (s .entry))) ≡ true)
+        × (r .value ≡ spelt (drop (20 - r .count) (now (s .entry))))
+        × (r .count < 19 → digit (getD (now (s .entry)) (19 - r .count) 0) ≡ false) ⌝ }
 {
     let powers = POWERS;
     let mut value: u64 = 0;

@@ -8,5 +8,6 @@ use Rattle.wire.specs.declared.output.Written.{Written}
 use Rattle.flat.specs.Wrote.{wroteOf, FlatSettled}
 use Rattle.flat.specs.declared.wrote.Wrote.{Wrote}
 
-pub flattens : {reply : Reply} {out left : List ℕ} {w : Written} {r : Wrote} → Settled reply out w left → r ≡ wroteOf w → FlatSettled reply out r left
+pub flattens : {reply : Reply} {out left : List ℕ} {w : Written} {r : Wrote} → Settled reply out w left → r ≡ wroteOf w
+    → FlatSettled reply out r left
 flattens s e = record { answer = e ∙ ap wroteOf (s .answer); bytes = s .bytes }

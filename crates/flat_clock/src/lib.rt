@@ -10,7 +10,8 @@ use flat::flag;
 use wire::kinds::Tick;
 use wire::refusal;
 ghost use mathlib.Core.Path.{_≡_};
-ghost use Rattle.flat_clock.specs.Waiting.{sheetOf, flatSheet, flatTimed, ruleOf, flatWait, flatSaid, timeAnswer, waitAnswer, lineLost, heartbeatDue};
+ghost use Rattle.flat_clock.specs.Waiting.{sheetOf, flatSheet, flatTimed, ruleOf, flatWait, flatSaid, timeAnswer, waitAnswer};
+ghost use Rattle.flat_clock.specs.Waiting.{lineLost, heartbeatDue};
 
 #[repr(C)]
 pub struct FlatSheet {

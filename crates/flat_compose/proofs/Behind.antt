@@ -25,5 +25,7 @@ module _ (out : List ℕ) (used size number : ℕ) where
     pub as-so-far : (n : ℕ) → soFar (take used out) ≡ refused n → Settled (unfitBehind out used size number) out (Refused n) out
     as-so-far n e = refuses (unfitBehind out used size number) out n (rw (le-leb used (length out) h, e))
 
-    pub and-then-unfit : Took (soFar (take used out)) → (r : Written) → r ≡ answerOf (unfit limit (used + size) number) → Settled (unfitBehind out used size number) out r out
-    and-then-unfit t r a = unfits (unfitBehind out used size number) out limit (used + size) number r (rw (le-leb used (length out) h, t .is)) a
+    pub and-then-unfit : Took (soFar (take used out)) → (r : Written) → r ≡ answerOf (unfit limit (used + size) number)
+        → Settled (unfitBehind out used size number) out r out
+    and-then-unfit t r a = unfits (unfitBehind out used size number) out limit (used + size) number r
+        (rw (le-leb used (length out) h, t .is)) a

@@ -1,4 +1,5 @@
--- What is refused behind the packet so far for an unknown type, or a body where none belongs, the reader refuses of the whole packet so laid out.
+-- What is refused behind the packet so far for an unknown type, or a body where none belongs, the reader refuses of the whole packet so
+-- laid out.
 -- Assumes nothing.
 use Prim.Native.Nat.{ℕ, _+_, _<_}
 use mathlib.Core.Path.{_≡_, refl, _∙_}
@@ -27,7 +28,8 @@ module _ (out : List ℕ) (used : ℕ) (g : Begun out used) where
   abbrev sent : List ℕ → ℕ → Reply
   sent w room = settle (readUp (whole w)) (whole w) room
 
-  pub refused-behind : (w : List ℕ) (size n room : ℕ) → 2 + length w ≡ size → 0 < length w → readMessage w ≡ refused n → unfitBehind out used size n ≡ sent w room
+  pub refused-behind : (w : List ℕ) (size n room : ℕ) → 2 + length w ≡ size → 0 < length w → readMessage w ≡ refused n
+      → unfitBehind out used size n ≡ sent w room
   refused-behind w size n room k h e =
       let s = so-far out used g in
       let l = length-so-far out used g in
@@ -35,7 +37,8 @@ module _ (out : List ℕ) (used : ℕ) (g : Begun out used) where
       (by-test (leb (used + size) limit)
       (λ p.
       let short = leb-true (used + size) limit p in
-      let says : readUp (whole w) ≡ refused n = rw (← s .bytes) (read-behind (g .begun .messages) w (s .all) h (rw (s .bytes) (omega arith)) ∙ rw e) in
+      let says : readUp (whole w) ≡ refused n = rw (← s .bytes) (read-behind (g .begun .messages) w (s .all) h (rw (s .bytes) (omega arith))
+      ∙ rw e) in
       rw (p, says))
       (λ p.
       let long = leb-false (used + size) limit p in
@@ -56,4 +59,6 @@ module _ (out : List ℕ) (used : ℕ) (g : Begun out used) where
     pub body-behind : 0 < length body → (w : List ℕ) (size : ℕ) (reply : Reply) (v : Verdict Message) → length w ≡ size + length body
         → readMessage w ≡ if length w is size then v else refused 4 → aloneBehind out used (2 + size) body reply ≡ sent w room
     body-behind h w size reply v l e =
-        rw (ne-eqb (length body) 0 (λ z. omega arith)) (refused-behind w (2 + size + length body) 4 room (omega arith) (omega arith) (e ∙ rw (ne-eqb (length w) size (λ z. omega arith))))
+        rw (ne-eqb (length body) 0 (λ z. omega arith))
+        (refused-behind w (2 + size + length body) 4 room (omega arith) (omega arith)
+        (e ∙ rw (ne-eqb (length w) size (λ z. omega arith))))

@@ -1,5 +1,5 @@
--- What is added of the flat fields of a UFO message of the client behind the packet so far: the type says which fields are taken, and what the
--- body is.
+-- What is added of the flat fields of a UFO message of the client behind the packet so far: the type says which fields are taken, and what
+-- the body is.
 -- Assumes nothing.
 use Prim.Native.Nat.{ℕ, _+_}
 use mathlib.Core.Path.{_≡_}

@@ -22,7 +22,8 @@ use wire::refusal;
 
 // A message and a body that don't go together: what is there is read first. The block has `size` bytes without the body.
 fn unfit_behind(out: &mut [u8], used: usize, size: u16, body: &[u8], number: u8) -> Written
-    ensures { λ r. ⌜ Settled (unfitBehind (now (out .entry)) used (size + length (now (body .entry))) number) (now (out .entry)) r (now (out .exit)) ⌝ }
+    ensures { λ r. ⌜ Settled (unfitBehind (now (out .entry)) used (size + length (now (body .entry))) number) (now (out .entry)) r
+        (now (out .exit)) ⌝ }
 {
     if out.len() < used {
         return Written::Refused(refusal::FRAMING);
@@ -35,7 +36,8 @@ fn unfit_behind(out: &mut [u8], used: usize, size: u16, body: &[u8], number: u8)
 
 // A message that has no body.
 fn alone(message: Message, size: u16, body: &[u8], out: &mut [u8], used: usize) -> Written
-    ensures { λ r. ⌜ Settled (aloneBehind (now (out .entry)) used size (now (body .entry)) (addReply (messageOf message (now (body .entry))) (now (out .entry)) used)) (now (out .entry)) r (now (out .exit)) ⌝ }
+    ensures { λ r. ⌜ Settled (aloneBehind (now (out .entry)) used size (now (body .entry))
+        (addReply (messageOf message (now (body .entry))) (now (out .entry)) used)) (now (out .entry)) r (now (out .exit)) ⌝ }
 {
     if body.len() != 0 {
         return unfit_behind(out, used, size, body, refusal::FRAMING);

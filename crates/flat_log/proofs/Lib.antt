@@ -1,3 +1,3 @@
 pub mod Entering
-pub mod Again
+pub mod FlatAndBack
 pub mod Settled

@@ -1,4 +1,5 @@
--- What a reader says of a packet whose type it doesn't know, or that goes on after what its type has: the refusals that the face makes by itself.
+-- What a reader says of a packet whose type it doesn't know, or that goes on after what its type has: the refusals that the face makes by
+-- itself.
 -- Assumes nothing.
 use Prim.Native.Nat.{ℕ, _+_, _<_}
 use mathlib.Core.Path.{_≡_, refl}
@@ -34,7 +35,8 @@ module _ (A : Type 0) (d : List ℕ) (room : ℕ) where
     pub beyond : (body : List ℕ) (reply : Reply) (v : Verdict A) → length d ≡ size + length body → 0 < length body
         → alone limit size body reply ≡ settle (opened some limit d (if length d is size then v else refused 4)) d room
     beyond body reply v l h =
-        rw (s, l, ne-eqb (length body) 0 (λ z. omega arith), ne-eqb (size + length body) size (λ z. omega arith)) (stands (leb (size + length body) limit) 4)
+        rw (s, l, ne-eqb (length body) 0 (λ z. omega arith), ne-eqb (size + length body) size (λ z. omega arith))
+        (stands (leb (size + length body) limit) 4)
 
   -- a datagram of an unknown type; and one that goes on with a body
   pub unknown-datagram : (size : ℕ) → length d ≡ size → 0 < size
@@ -43,4 +45,5 @@ module _ (A : Type 0) (d : List ℕ) (room : ℕ) where
 
   pub beyond-datagram : (size : ℕ) (body : List ℕ) (reply : Reply) (v : Verdict A) → length d ≡ size + length body → 0 < length body
       → alone 1472 size body reply ≡ settle (opened (not (length d is 0)) 1472 d (if length d is size then v else refused 4)) d room
-  beyond-datagram size body reply v l h = beyond (not (length d is 0)) 1472 size (rw (ne-eqb (length d) 0 (λ z. omega arith))) body reply v l h
+  beyond-datagram size body reply v l h = beyond (not (length d is 0)) 1472 size (rw (ne-eqb (length d) 0 (λ z. omega arith))) body reply v
+      l h

@@ -1,4 +1,5 @@
--- What a round through the flat fields asks of any protocol: nothing is refused under 0, what was read is lawful, and what was written is what its reader takes.
+-- What a round through the flat fields asks of any protocol: nothing is refused under 0, what was read is lawful, and what was written is
+-- what its reader takes.
 -- Assumes nothing.
 use Prim.Native.Nat.{ℕ, _+_, _-_, _^_, _<_}
 use mathlib.Core.Path.{_≡_, refl, sym, ap, _∙_}
@@ -29,21 +30,37 @@ abbrev pub bodyOf : Packet → List ℕ → List ℕ
 bodyOf p d = take (p .length) (drop (p .start) d)
 
 -- what stands behind a place, up to the end
-pub body-behind : (start : ℕ) (d body : List ℕ) → length d ≡ start + length body → drop start d ≡ body → take (length d - start) (drop start d) ≡ body
+pub body-behind : (start : ℕ) (d body : List ℕ) → length d ≡ start + length body → drop start d ≡ body
+    → take (length d - start) (drop start d) ≡ body
 body-behind start d body l e = rw (l, e, add-sub-cancel-left start (length body)) (take-length body)
 
 -- numbered messages, with their blocks from a place on to the end, behind a header with so many extra bytes or with none
 abbrev pub blocksBehind : (kind session number count extra start : ℕ) (body : List ℕ) → Read
 blocksBehind kind session number count extra start body =
-    thePacket (record { kind = kind; reason = 0; count = count; user = nothing .user; password = nothing .password; name = nothing .name; session = session; number = number; start = start; length = length body; next = 0; extra = extra })
+    thePacket (record {
+      kind = kind;
+      reason = 0;
+      count = count;
+      user = nothing .user;
+      password = nothing .password;
+      name = nothing .name;
+      session = session;
+      number = number;
+      start = start;
+      length = length body;
+      next = 0;
+      extra = extra;
+    })
 
 abbrev pub blocks : (kind session number count start : ℕ) (body : List ℕ) → Read
 blocks kind session number count start body = blocksBehind kind session number count 0 start body
 
-pub broadcast-blocks : (kind session number count extra start : ℕ) (body : List ℕ) → broadcast kind session number count extra start (start + length body) ≡ blocksBehind kind session number count extra start body
+pub broadcast-blocks : (kind session number count extra start : ℕ) (body : List ℕ) → broadcast kind session number count extra start
+    (start + length body) ≡ blocksBehind kind session number count extra start body
 broadcast-blocks kind session number count extra start body = rw (add-sub-cancel-left start (length body))
 
-pub counted-blocks : (kind session number count start : ℕ) (body : List ℕ) → counted kind session number count start (start + length body) ≡ blocks kind session number count start body
+pub counted-blocks : (kind session number count start : ℕ) (body : List ℕ)
+    → counted kind session number count start (start + length body) ≡ blocks kind session number count start body
 counted-blocks kind session number count start body = broadcast-blocks kind session number count 0 start body
 
 -- n bytes, as text of that length is, padded on either side
@@ -111,12 +128,15 @@ unfit-not-given limit size n d =
     (λ _. not-both (refused n) n d refl)
     (λ _. not-both (refused 2) 2 d refl)
 
-pub given-no-body : (limit size : ℕ) (body : List ℕ) (reply : Reply) (d : List ℕ) → alone limit size body reply ≡ taken d → (body ≡ []) × (reply ≡ taken d)
+pub given-no-body : (limit size : ℕ) (body : List ℕ) (reply : Reply) (d : List ℕ) → alone limit size body reply ≡ taken d → (body ≡ [])
+    × (reply ≡ taken d)
 given-no-body limit size [] reply d e = (refl, e)
-given-no-body limit size (x ∷ body) reply d e = unfit-not-given limit (size + length (x ∷ body)) 4 d (rw (ne-eqb (length (x ∷ body)) 0 (λ z. omega arith)) at e)
+given-no-body limit size (x ∷ body) reply d e = unfit-not-given limit (size + length (x ∷ body)) 4 d
+    (rw (ne-eqb (length (x ∷ body)) 0 (λ z. omega arith)) at e)
 
 -- one of the types
-pub given-by-kind : (P : ℕ → Type 0) (kind n : ℕ) (x y : Reply) (d : List ℕ) → (x ≡ taken d → P n) → (y ≡ taken d → P kind) → (if kind is n then x else y) ≡ taken d → P kind
+pub given-by-kind : (P : ℕ → Type 0) (kind n : ℕ) (x y : Reply) (d : List ℕ) → (x ≡ taken d → P n) → (y ≡ taken d → P kind)
+    → (if kind is n then x else y) ≡ taken d → P kind
 given-by-kind P kind n x y d here there =
     chosen (kind is n) x y (taken d) (λ t e. rw (eqb-true kind n t) (here e)) (λ _. there)
 

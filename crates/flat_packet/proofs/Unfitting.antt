@@ -14,5 +14,6 @@ leaves : (b : Bool) (n : ℕ) (out : List ℕ) → out ≡ leftOf (if b then ref
 leaves true n out = refl
 leaves false n out = refl
 
-pub unfits : (reply : Reply) (out : List ℕ) (limit size n : ℕ) (r : Written) → reply ≡ unfit limit size n → r ≡ answerOf (unfit limit size n) → Settled reply out r out
+pub unfits : (reply : Reply) (out : List ℕ) (limit size n : ℕ) (r : Written) → reply ≡ unfit limit size n
+    → r ≡ answerOf (unfit limit size n) → Settled reply out r out
 unfits reply out limit size n r e a = rw e (record { answer = a; bytes = leaves (leb size limit) n out })

@@ -3,7 +3,8 @@ pub mod fitting;
 
 ghost use mathlib.Core.Path.{_≡_};
 ghost use Prim.Native.Nat.{_-_};
-ghost use Rattle.flat_packet.specs.Packets.{nothing, bare, named, rejected, payload, loggedIn, numbered, counted, broadcast, requested, noPacket, thePacket};
+ghost use Rattle.flat_packet.specs.Packets.{nothing, bare, named, rejected, payload, loggedIn, numbered, counted, broadcast};
+ghost use Rattle.flat_packet.specs.Packets.{requested, noPacket, thePacket};
 
 // kind: the type byte of the wire. extra: in MEMX-UDP how many bytes the header has past its own fields.
 #[repr(C)]

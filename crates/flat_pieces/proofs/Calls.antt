@@ -20,7 +20,7 @@ use Rattle.flat_pieces.specs.Taking.{piecesOf, FlatAnswered}
 use Rattle.flat_pieces.specs.Calling.{FlatLent, lentOf, FlatAllowed, FlatSeen, aPacket, aRefusal, flatSeen, then}
 use Rattle.flat_pieces.specs.declared.FlatPiece.{FlatPiece}
 use Rattle.flat_pieces.proofs.Flattening.{flatOf, same-flat}
-use Rattle.flat_pieces.proofs.Again.{pieces-again}
+use Rattle.flat_pieces.proofs.FlatAndBack.{pieces-again}
 
 -- an answer that is not refused is the room's, laid flat
 pub record Told (l : FlatLent) (piece : List ℕ) (place : ℕ) (r : FlatPiece) (left : List ℕ) : Type 0 where
@@ -28,7 +28,8 @@ pub record Told (l : FlatLent) (piece : List ℕ) (place : ℕ) (r : FlatPiece) 
   pub allowed : Allowed (lentOf l) piece place answer left
   pub flat : r ≡ flatOf (l .pieces) piece left answer
 
-pub told : (l : FlatLent) (piece : List ℕ) (place : ℕ) (r : FlatPiece) (left : List ℕ) → FlatAllowed l piece place r left → r .refusal ≡ 0 → Told l piece place r left
+pub told : (l : FlatLent) (piece : List ℕ) (place : ℕ) (r : FlatPiece) (left : List ℕ) → FlatAllowed l piece place r left → r .refusal ≡ 0
+    → Told l piece place r left
 told l piece place r left a e = by-test (isFlag (l .pieces .dropping)) known unknown where
   known : isFlag (l .pieces .dropping) ≡ true → Told l piece place r left
   known f =
@@ -99,16 +100,22 @@ module _ (piece : List ℕ) (l : FlatLent) (place : ℕ) (r : FlatPiece) (left :
 
   pub ends : r .refusal ≡ 0 → r .what ≡ 0 → (t : Taken) → Flat t → Room t → Through piece l place [] (then r left)
   ends e w (takes.Refused n) f a = let z : n ≡ 0 = rw f at e in never-nought (lentOf l) piece place left (rw z at a)
-  ends e w (takes.UsedUp after) f a = record { got = []; calls = rw (f, pieces-again after) (room.usesUp (lentOf l) place after left a); same = refl }
+  ends e w (takes.UsedUp after) f a = record {
+    got = [];
+    calls = rw (f, pieces-again after) (room.usesUp (lentOf l) place after left a);
+    same = refl;
+  }
   ends e w (takes.Packet says number bytes next after) f a = apart 1 0 (rw f at w) (λ z. omega arith)
   ends e w (takes.Unfit why bytes next after) f a = apart 2 0 (rw f at w) (λ z. omega arith)
 
   module _ (more : List FlatSeen) (end : FlatLent) (on : Through piece (then r left) (r .place) more end) where
-    pub hands-out : r .what ≡ 1 → (t : Taken) → Flat t → Room t → Through piece l place (aPacket (take (r .bytes) left) (r .packet) (r .number) ∷ more) end
+    pub hands-out : r .what ≡ 1 → (t : Taken) → Flat t → Room t
+        → Through piece l place (aPacket (take (r .bytes) left) (r .packet) (r .number) ∷ more) end
     hands-out w (takes.Refused n) f a = apart 0 1 (rw f at w) (λ z. omega arith)
     hands-out w (takes.UsedUp after) f a = apart 0 1 (rw f at w) (λ z. omega arith)
     hands-out w (takes.Packet says number bytes next after) f a =
-        let c : Calls Allowed piece (record { pieces = after; buffer = left }) next (on .got) (lentOf end) = rw (f, pieces-again after) at (on .calls) in
+        let c : Calls Allowed piece (record { pieces = after; buffer = left }) next (on .got) (lentOf end) =
+        rw (f, pieces-again after) at (on .calls) in
         record {
           got = room.aPacket (take bytes left) says (number .0) ∷ on .got;
           calls = room.hands (lentOf l) place says number bytes next after left (on .got) (lentOf end) a c;
@@ -116,12 +123,14 @@ module _ (piece : List ℕ) (l : FlatLent) (place : ℕ) (r : FlatPiece) (left :
         }
     hands-out w (takes.Unfit why bytes next after) f a = apart 2 1 (rw f at w) (λ z. omega arith)
 
-    pub hands-back : r .what ≡ 2 → (t : Taken) → Flat t → Room t → Through piece l place (aRefusal (take (r .bytes) left) (r .why) ∷ more) end
+    pub hands-back : r .what ≡ 2 → (t : Taken) → Flat t → Room t → Through piece l place (aRefusal (take (r .bytes) left) (r .why) ∷ more)
+        end
     hands-back w (takes.Refused n) f a = apart 0 2 (rw f at w) (λ z. omega arith)
     hands-back w (takes.UsedUp after) f a = apart 0 2 (rw f at w) (λ z. omega arith)
     hands-back w (takes.Packet says number bytes next after) f a = apart 1 2 (rw f at w) (λ z. omega arith)
     hands-back w (takes.Unfit why bytes next after) f a =
-        let c : Calls Allowed piece (record { pieces = after; buffer = left }) next (on .got) (lentOf end) = rw (f, pieces-again after) at (on .calls) in
+        let c : Calls Allowed piece (record { pieces = after; buffer = left }) next (on .got) (lentOf end) =
+        rw (f, pieces-again after) at (on .calls) in
         record {
           got = room.aRefusal (take bytes left) why ∷ on .got;
           calls = room.refuses (lentOf l) place why bytes next after left (on .got) (lentOf end) a c;

@@ -1,4 +1,5 @@
--- The callers' laws over the contract of `take` as it is generated from the source: whatever outcomes it allows, the same bytes cut elsewhere give the same.
+-- The callers' laws over the contract of `take` as it is generated from the source: whatever outcomes it allows, the same bytes cut
+-- elsewhere give the same.
 -- Assumes nothing.
 use Prim.Native.Nat.{ℕ, _≤_}
 use mathlib.Core.Path.{_≡_}
@@ -32,7 +33,8 @@ FlatEnsured l piece place r left =
     × (now (e .1 .0) ≡ left)
     × take-reads.Post κs a r e
 
-ensured-allowed : (l : FlatLent) (piece : List ℕ) (place : ℕ) (r : FlatPiece) (left : List ℕ) → FlatEnsured l piece place r left → FlatAllowed l piece place r left
+ensured-allowed : (l : FlatLent) (piece : List ℕ) (place : ℕ) (r : FlatPiece) (left : List ℕ) → FlatEnsured l piece place r left
+    → FlatAllowed l piece place r left
 ensured-allowed l piece place r left x = rw (← x .3, ← x .4, ← x .5, ← x .6, ← x .7) (x .8)
 
 -- to begin with all is 0, and the buffer has 4,098 bytes or more
@@ -44,7 +46,8 @@ unfolding hangs unbroken
 begins buffer h = rw (le-leb 4098 (length buffer) h)
 
 -- a program is handed what the machine hands out for the bytes that it fed
-pub fed : (l : FlatLent) (pieces : List (List ℕ)) (saw : List FlatSeen) (end : FlatLent) → Hung (lentOf l) → FlatFeeds FlatEnsured l pieces saw end → Fed l (joined pieces) saw end
+pub fed : (l : FlatLent) (pieces : List (List ℕ)) (saw : List FlatSeen) (end : FlatLent) → Hung (lentOf l)
+    → FlatFeeds FlatEnsured l pieces saw end → Fed l (joined pieces) saw end
 fed = fed-is-eaten FlatEnsured ensured-allowed
 
 pub cut-elsewhere : (l m : FlatLent) (pieces others : List (List ℕ)) (saw got : List FlatSeen) (end last : FlatLent)

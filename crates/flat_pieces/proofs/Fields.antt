@@ -21,7 +21,8 @@ use Rattle.flat_soup.proofs.Round.{kind-is-the-type-byte}
 
 -- a text is copied whole
 pub copied-whole : (out text : List ℕ) → length text ≡ length out → sets out 0 text ≡ text
-copied-whole out text l = sets-eq text out 0 (omega arith) ∙ rw (drop-of-length-le out {i = 0 + length text} (omega arith)) (append-nil text)
+copied-whole out text l = sets-eq text out 0 (omega arith) ∙ rw (drop-of-length-le out {i = 0 + length text} (omega arith))
+    (append-nil text)
 
 -- the cases of the reader's answer that are their type alone: H Z R O
 abbrev pub alone : List ℕ
@@ -34,7 +35,8 @@ module _ (d : List ℕ) (said : Reading) (e : said ≡ readingOf (read d)) where
 
   module _ (b : Bytes d) where
     -- a packet whose fields are its type and a place behind it
-    pub by-type : (x : Reading) (kind start size : ℕ) (r : Read) → said ≡ x → flatSoup x ≡ payload kind start size 0 → r ≡ payload (getD d 0 0) start size 0 → r ≡ soupRead d
+    pub by-type : (x : Reading) (kind start size : ℕ) (r : Read) → said ≡ x → flatSoup x ≡ payload kind start size 0
+        → r ≡ payload (getD d 0 0) start size 0 → r ≡ soupRead d
     by-type x kind start size r k f q =
         let same : soupRead d ≡ payload kind start size 0 = ap flatSoup (sym e ∙ k) ∙ f in
         let letter : kind ≡ getD d 0 0 = rw same at (kind-is-the-type-byte d b (rw same)) in

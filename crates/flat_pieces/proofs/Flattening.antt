@@ -24,7 +24,16 @@ flatOf lent piece left (takes.Refused n) =
 flatOf lent piece left (takes.UsedUp after) =
     record { refusal = 0; place = length piece; what = 0; why = 0; number = 0; bytes = 0; packet = nothing; pieces = flatPieces after }
 flatOf lent piece left (takes.Packet says number bytes place after) =
-    record { refusal = 0; place = place; what = 1; why = 0; number = number .0; bytes = bytes; packet = soupRead (take bytes left) .packet; pieces = flatPieces after }
+    record {
+      refusal = 0;
+      place = place;
+      what = 1;
+      why = 0;
+      number = number .0;
+      bytes = bytes;
+      packet = soupRead (take bytes left) .packet;
+      pieces = flatPieces after;
+    }
 flatOf lent piece left (takes.Unfit why bytes place after) =
     record { refusal = 0; place = place; what = 2; why = why; number = 0; bytes = bytes; packet = nothing; pieces = flatPieces after }
 

@@ -2,7 +2,7 @@ pub mod Flattening
 pub mod Fields
 pub mod Texts
 pub mod Handing
-pub mod Again
+pub mod FlatAndBack
 pub mod Calls
 pub mod Callers
 pub mod Contracted

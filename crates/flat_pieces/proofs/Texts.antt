@@ -8,7 +8,8 @@ use lib.ListN.{length, getD, take, drop}
 use Rattle.wire.specs.Checks.{Verdict, refused, taken}
 use Rattle.wire.specs.Fields.{Bytes}
 use Rattle.names.specs.Names.{nameBytes, userBytes}
-use Rattle.soup.specs.Packet.{Packet, debug, accept, reject, sequenced, serverHeartbeat, endOfSession, login, unsequenced, clientHeartbeat, logout, write, Fit}
+use Rattle.soup.specs.Packet.{Packet, debug, accept, reject, sequenced, serverHeartbeat, endOfSession, login, unsequenced, clientHeartbeat}
+use Rattle.soup.specs.Packet.{logout, write, Fit}
 use Rattle.soup.specs.Read.{read}
 use Rattle.soup.specs.Reading.{packetOf, readingOf}
 use Rattle.soup.specs.declared.reading.Reading.{Reading}

@@ -1,3 +1,3 @@
 pub mod Taking
-pub mod Steps
+pub mod Laying
 pub mod Calling

@@ -31,16 +31,35 @@ flatState s = flatPieces (handedBack s)
 abbrev pub takeVerdict : FlatPieces → (buffer piece : List ℕ) (place : ℕ) → Verdict First
 takeVerdict lent buffer piece place = checked ((isFlag (lent .dropping) else 10) ∷ []) (taking (piecesOf lent) buffer piece place)
 
--- where the call is refused, the pieces that were lent; the place is where the bytes that are left begin; a packet's fields are those that the reader gives
+-- where the call is refused, the pieces that were lent; the place is where the bytes that are left begin; a packet's fields are those that
+-- the reader gives
 abbrev pub flatTaken : FlatPieces → (piece : List ℕ) → Verdict First → FlatPiece
 flatTaken lent piece (refused n) =
     record { refusal = n; place = 0; what = 0; why = 0; number = 0; bytes = 0; packet = nothing; pieces = lent }
 flatTaken lent piece (taken (usedUp s)) =
     record { refusal = 0; place = length piece; what = 0; why = 0; number = 0; bytes = 0; packet = nothing; pieces = flatState s }
 flatTaken lent piece (taken (given (packet d p number) s left)) =
-    record { refusal = 0; place = length piece - length left; what = 1; why = 0; number = number; bytes = length d; packet = soupRead d .packet; pieces = flatState s }
+    record {
+      refusal = 0;
+      place = length piece - length left;
+      what = 1;
+      why = 0;
+      number = number;
+      bytes = length d;
+      packet = soupRead d .packet;
+      pieces = flatState s;
+    }
 flatTaken lent piece (taken (given (refusal d why) s left)) =
-    record { refusal = 0; place = length piece - length left; what = 2; why = why; number = 0; bytes = length d; packet = nothing; pieces = flatState s }
+    record {
+      refusal = 0;
+      place = length piece - length left;
+      what = 2;
+      why = why;
+      number = 0;
+      bytes = length d;
+      packet = nothing;
+      pieces = flatState s;
+    }
 
 -- the answer r, and every byte of the buffer
 pub record FlatAnswered (v : Verdict First) (lent : FlatPieces) (buffer piece : List ℕ) (r : FlatPiece) (left : List ℕ) : Type 0 where

@@ -17,7 +17,7 @@ ghost use Rattle.soup_pieces.specs.Taking.{Answered};
 ghost use Rattle.flat_packet.specs.Packets.{nothing};
 ghost use Rattle.flat_soup.specs.Reading.{soupRead};
 ghost use Rattle.flat_pieces.specs.Taking.{piecesOf, flatPieces, takeVerdict, FlatAnswered};
-ghost use Rattle.flat_pieces.specs.Steps.{noneEnded, upTo, withFields};
+ghost use Rattle.flat_pieces.specs.Laying.{noneEnded, upTo, withFields};
 
 // What is handed from call to call, with the buffer.
 #[repr(C)]
@@ -111,8 +111,8 @@ fn ten(s: &[u8], at: usize) -> [u8; 10]
     text
 }
 
-// What `hp_soup_read` would say of the bytes, by what the reader has found. The reader's own flat function is not called: with a second caller the compiler
-// would no longer lay it into `hp_soup_read`, and that would take half as long again.
+// What `hp_soup_read` would say of the bytes, by what the reader has found. The reader's own flat function is not called: with a second
+// caller the compiler would no longer lay it into `hp_soup_read`, and that would take half as long again.
 fn told(said: Reading, bytes: &[u8]) -> Read
     requires { ⌜ said ≡ readingOf (read (now bytes)) ⌝ }
     ensures { λ r. ⌜ r ≡ soupRead (now (bytes .entry)) ⌝ }
@@ -170,7 +170,8 @@ fn with_fields(flat: FlatPiece, said: Reading, bytes: &[u8]) -> FlatPiece
 
 // What the room answers; a flag that is none is 10.
 fn verdict(given: FlatPieces, buffer: &mut [u8], piece: &[u8], place: usize) -> Taken
-    ensures { λ r. ⌜ Answered (takeVerdict given (now (buffer .entry)) (now (piece .entry)) place) (now (buffer .entry)) (now (piece .entry)) r (now (buffer .exit)) ⌝ }
+    ensures { λ r. ⌜ Answered (takeVerdict given (now (buffer .entry)) (now (piece .entry)) place) (now (buffer .entry))
+        (now (piece .entry)) r (now (buffer .exit)) ⌝ }
 {
     if flag::is_flag(given.dropping) {
         soup_pieces::take(pieces_of(given), buffer, piece, place)
@@ -181,7 +182,8 @@ fn verdict(given: FlatPieces, buffer: &mut [u8], piece: &[u8], place: usize) -> 
 
 // The answer's zeros are stored before the call: stored just before the answer is copied, they would hold the copy up.
 pub fn take(given: FlatPieces, buffer: &mut [u8], piece: &[u8], place: u64) -> FlatPiece
-    ensures { λ r. ⌜ FlatAnswered (takeVerdict given (now (buffer .entry)) (now (piece .entry)) place) given (now (buffer .entry)) (now (piece .entry)) r (now (buffer .exit)) ⌝ }
+    ensures { λ r. ⌜ FlatAnswered (takeVerdict given (now (buffer .entry)) (now (piece .entry)) place) given (now (buffer .entry))
+        (now (piece .entry)) r (now (buffer .exit)) ⌝ }
 {
     let none = none_ended(given);
     match verdict(given, buffer, piece, place as usize) {

@@ -17,7 +17,8 @@ says-so (taken complete) e = refl
 says-so (taken ongoing) e = impossible e
 says-so (taken (missing ranges)) e = impossible e
 
-pub complete-exactly-if : (given : FlatRecord) → (standingAnswer given .complete ≡ 1) ↔ ((r : Record) × (knownRecord given ≡ taken r) × (standing r ≡ taken complete))
+pub complete-exactly-if : (given : FlatRecord) → (standingAnswer given .complete ≡ 1)
+    ↔ ((r : Record) × (knownRecord given ≡ taken r) × (standing r ≡ taken complete))
 complete-exactly-if given = (to, back) where
   to : standingAnswer given .complete ≡ 1 → (r : Record) × (knownRecord given ≡ taken r) × (standing r ≡ taken complete)
   to e = let w = went (knownRecord given) standing complete (says-so (knownRecord given into standing) e) in (w .by, w .was, w .gave)

@@ -1,5 +1,5 @@
 pub mod Complete
 pub mod Ranges
-pub mod Again
+pub mod FlatAndBack
 pub mod Rules
 pub mod Settled

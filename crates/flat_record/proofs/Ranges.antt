@@ -17,21 +17,32 @@ use Rattle.record.proofs.Complete.{standing-means}
 use Rattle.flat_record.specs.Keeping.{knownRecord, standingAnswer, rangeAnswer}
 use Rattle.flat_record.specs.declared.keeping.FlatRecord.{FlatRecord}
 
-module _ (given : FlatRecord) (r : Record) (known : knownRecord given ≡ taken r) (rs : List Range) (lacks : standing r ≡ taken (missing rs)) where
-  pub counted : standingAnswer given ≡ record { refusal = 0; complete = 0; missing = length rs; first = (rs at 0) .first .0; last = (rs at 0) .last .0 }
-  counted = rw (known, lacks)
+module _ (given : FlatRecord) (r : Record) (known : knownRecord given ≡ taken r) (rs : List Range) (lacks : standing r ≡ taken (missing rs))
+  where
+    pub counted : standingAnswer given ≡ record {
+      refusal = 0;
+      complete = 0;
+      missing = length rs;
+      first = (rs at 0) .first .0;
+      last = (rs at 0) .last .0;
+    }
+    counted = rw (known, lacks)
 
-  gives : (place : ℕ) → rangeAt r place ≡ taken (rs at place)
-  unfolding standing rangeAt
-  gives place =
-      let hung : hangs r ≡ true = all-passed ((hangs r else 10) ∷ []) (taken (state r)) (missing rs) lacks .0 .0 in
-      let same : rs ≡ missingOf r = standing-means r (missing rs) lacks .0 in
-      rw (hung, same)
+    gives : (place : ℕ) → rangeAt r place ≡ taken (rs at place)
+    unfolding standing rangeAt
+    gives place =
+        let hung : hangs r ≡ true = all-passed ((hangs r else 10) ∷ []) (taken (state r)) (missing rs) lacks .0 .0 in
+        let same : rs ≡ missingOf r = standing-means r (missing rs) lacks .0 in
+        rw (hung, same)
 
-  pub one-by-one : (place : ℕ) → rangeAnswer given place ≡ record { refusal = 0; first = (rs at place) .first .0; last = (rs at place) .last .0 }
-  one-by-one place = rw (known, gives place)
+    pub one-by-one : (place : ℕ) → rangeAnswer given place ≡ record {
+      refusal = 0;
+      first = (rs at place) .first .0;
+      last = (rs at place) .last .0;
+    }
+    one-by-one place = rw (known, gives place)
 
-  pub none-past-the-last : (place : ℕ) → length rs ≤ place → rangeAnswer given place ≡ record { refusal = 0; first = 0; last = 0 }
-  none-past-the-last place l =
-      let noughts : rs at place ≡ 0 to 0 = List·getD-eq-default rs (0 to 0) l in
-      rw (one-by-one place, noughts)
+    pub none-past-the-last : (place : ℕ) → length rs ≤ place → rangeAnswer given place ≡ record { refusal = 0; first = 0; last = 0 }
+    none-past-the-last place l =
+        let noughts : rs at place ≡ 0 to 0 = List·getD-eq-default rs (0 to 0) l in
+        rw (one-by-one place, noughts)

@@ -38,6 +38,7 @@ module _ (p : FlatPatience) (unknown : 2 < p .rule) where
   pub no-wait : (s : Sheet) → waiting s (ruleOf p) ≡ checked ((sound s else 10) ∷ []) (refused 15)
   no-wait s = rw out-of-range
 
-  pub no-request : (r : Record) (s : Sheet) (elapsed : Float) → asking r s (ruleOf p) elapsed ≡ checked ((hangs r else 10) ∷ (sound s else 10) ∷ []) (refused 15)
+  pub no-request : (r : Record) (s : Sheet) (elapsed : Float)
+      → asking r s (ruleOf p) elapsed ≡ checked ((hangs r else 10) ∷ (sound s else 10) ∷ []) (refused 15)
   unfolding asking
   no-request r s elapsed = rw out-of-range (stands (hangs r) (sound s) (λ late. taken (wish r late)))

@@ -66,10 +66,11 @@ flatTaken given (takes.Took bytes messages after) =
     record { refusal = 0; bytes = bytes; messages = messages; after = flatRecord given after }
 
 -- the answer r, the bytes left in the output and the area left are those of the verdict
-pub record FlatAnswered (v : Verdict Taking) (given : FlatRecord) (area out : List ℕ) (r : FlatTaken) (areaLeft left : List ℕ) : Type 0 where
-  pub answer : r ≡ flatTaken given (takenOf v)
-  pub bytes : left ≡ leftOf (blocksOf v) out
-  pub slots : areaLeft ≡ areaOf v area
+pub record FlatAnswered (v : Verdict Taking) (given : FlatRecord) (area out : List ℕ) (r : FlatTaken) (areaLeft left : List ℕ) : Type 0
+  where
+    pub answer : r ≡ flatTaken given (takenOf v)
+    pub bytes : left ≡ leftOf (blocksOf v) out
+    pub slots : areaLeft ≡ areaOf v area
 
 -- missing: how many ranges are; first to last is the first of them
 abbrev pub flatStanding : Standing → FlatStanding

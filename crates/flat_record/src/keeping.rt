@@ -11,7 +11,8 @@ use wire::kinds::SessionId;
 use wire::refusal;
 ghost use mathlib.Core.Path.{_≡_};
 ghost use lib.ListN.{length};
-ghost use Rattle.flat_record.specs.Keeping.{sessionOf, recordOf, readable, flatRecord, flatTaken, FlatAnswered, flatStanding, flatRange, takeVerdict, standingAnswer, rangeAnswer};
+ghost use Rattle.flat_record.specs.Keeping.{sessionOf, recordOf, readable, flatRecord, flatTaken, FlatAnswered, flatStanding};
+ghost use Rattle.flat_record.specs.Keeping.{flatRange, takeVerdict, standingAnswer, rangeAnswer};
 
 // style: 1 UFO, with the name; 2 MEMX-UDP, with the session.
 #[repr(C)]
@@ -179,7 +180,8 @@ fn flat_range(answer: MissingRange) -> FlatRange
 }
 
 pub fn take(given: FlatRecord, area: &mut [u8], datagram: &[u8], out: &mut [u8]) -> FlatTaken
-    ensures { λ r. ⌜ FlatAnswered (takeVerdict given (now (area .entry)) (now (datagram .entry)) (length (now (out .entry)))) given (now (area .entry)) (now (out .entry)) r (now (area .exit)) (now (out .exit)) ⌝ }
+    ensures { λ r. ⌜ FlatAnswered (takeVerdict given (now (area .entry)) (now (datagram .entry)) (length (now (out .entry)))) given
+        (now (area .entry)) (now (out .entry)) r (now (area .exit)) (now (out .exit)) ⌝ }
 {
     if is_readable(given) {
         flat_taken(given, taking::take(record_of(given), area, datagram, out))

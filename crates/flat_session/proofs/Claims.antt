@@ -10,7 +10,7 @@ use Rattle.session.specs.Session.{State, Act, step, stop, Run, Reached}
 use Rattle.session.specs.Promise.{Faithful}
 use Rattle.session.proofs.Claims as session
 use Rattle.flat_session.specs.Face.{Held, Holds, HoldsSome, LeavesStep, LeavesSteps, LeavesOpened}
-use Rattle.flat_session.proofs.Steps.{step-left, steps-left, opened-left}
+use Rattle.flat_session.proofs.EachStep.{step-left, steps-left, opened-left}
 
 -- Each step: a program that holds a state is left with the step's, whatever outcome the contracts of the header's functions allow.
 pub by-header : {s : State} → Reached s → (h : Held) → Holds h s → (act : Act) → LeavesStep h act (λ g. Holds g (step s act))
@@ -32,5 +32,6 @@ every-claim Claim true name lent area b l n =
     opened-left name lent area b l _ (λ h s r i. steps-left stop r h i n (HoldsSome Claim) (λ g t _ q j. (t, j, true t q)))
 
 -- As the first: the deliveries are the log's beginning, each message once, in order, none skipped.
-pub faithful : (name lent area : List ℕ) → Bytes lent → areaSize ≤ length area → (n : ℕ) → LeavesOpened name lent area (λ h. LeavesSteps n h (HoldsSome Faithful))
+pub faithful : (name lent area : List ℕ) → Bytes lent → areaSize ≤ length area → (n : ℕ)
+    → LeavesOpened name lent area (λ h. LeavesSteps n h (HoldsSome Faithful))
 faithful = every-claim Faithful (λ s r. session.faithful r)

@@ -1,3 +1,3 @@
-pub mod Told
-pub mod Steps
+pub mod NeverNought
+pub mod EachStep
 pub mod Claims

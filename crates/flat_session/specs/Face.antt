@@ -10,7 +10,8 @@ use lib.ListN.{length, take, drop}
 use Rattle.wire.specs.Fields.{Bytes}
 use Rattle.wire.specs.Checks.{if_then_else_, _is_, taken}
 use Rattle.names.specs.Names.{nameBytes}
-use Rattle.session.specs.Session.{_among_, State, Act, adds, addsMany, declares, beats, ends, answers, accepts, rejects, serves, takes, asks, says}
+use Rattle.session.specs.Session.{_among_, State, Act, adds, addsMany, declares, beats, ends, answers, accepts, rejects, serves, takes}
+use Rattle.session.specs.Session.{asks, says}
 use Rattle.session.specs.Caller.{Leaves}
 use Rattle.flat.specs.declared.wrote.Wrote.{Wrote}
 use Rattle.flat_clock.specs.Waiting.{knownSheet, ruleOf}
@@ -134,7 +135,8 @@ abbrev pub LeavesAsked : ℕ → FlatAsked → (List (List ℕ) → Type 0) → 
 LeavesAsked room x left =
     cond (x .what is 2)
     (Leaves 2 hp-ufo-write-message.ps hp-ufo-write-message.r hp-ufo-write-message-reads.Post
-    (λ κs a. (a .0 .kind ≡ 84) × (a .0 .number ≡ x .first) × (a .0 .count ≡ x .count % 2 ^ 16) × (now (a .1 .0) ≡ []) × (length (now (a .1 .1 .0)) ≡ room))
+    (λ κs a. (a .0 .kind ≡ 84) × (a .0 .number ≡ x .first) × (a .0 .count ≡ x .count % 2 ^ 16) × (now (a .1 .0) ≡ [])
+    × (length (now (a .1 .1 .0)) ≡ room))
     (λ κs y e. left (written y (now (e .1 .1 .0)))))
     (left [])
 
@@ -142,7 +144,8 @@ LeavesAsked room x left =
 abbrev pub LeavesAnswered : Held → (room first count : ℕ) → (List (List ℕ) → Type 0) → Type 0
 LeavesAnswered h room first count left =
     Leaves 2 hp-log-answer.ps hp-log-answer.r hp-log-answer-reads.Post
-    (λ κs a. (a .0 ≡ h .log) × (now (a .1 .0) ≡ h .lent) × (a .1 .1 .0 ≡ first) × (a .1 .1 .1 .0 ≡ count) × (length (now (a .1 .1 .1 .1 .0)) ≡ room))
+    (λ κs a. (a .0 ≡ h .log) × (now (a .1 .0) ≡ h .lent) × (a .1 .1 .0 ≡ first) × (a .1 .1 .1 .0 ≡ count)
+    × (length (now (a .1 .1 .1 .1 .0)) ≡ room))
     (λ κs x e. left (written x (now (e .1 .1 .1 .1 .0))))
 
 -- A server that is handed a datagram reads how many messages it has, then message by message, each at the place after the one before
@@ -180,17 +183,20 @@ LeavesStep h (ends room) left = Leaves 2 hp-log-end-packet.ps hp-log-end-packet.
     (λ κs x e. left (sending h (written x (now (e .1 .1 .0)))))
 LeavesStep h (answers first count room) left = LeavesAnswered h room first count (λ answer. left (sending h answer))
 LeavesStep h (accepts session next room) left = Leaves 2 hp-ufo-write-down.ps hp-ufo-write-down.r hp-ufo-write-down-reads.Post
-    (λ κs a. (a .0 .kind ≡ 65) × (a .0 .name ≡ nameBytes session) × (a .0 .number ≡ next) × (now (a .1 .0) ≡ []) × (length (now (a .1 .1 .0)) ≡ room))
+    (λ κs a. (a .0 .kind ≡ 65) × (a .0 .name ≡ nameBytes session) × (a .0 .number ≡ next) × (now (a .1 .0) ≡ [])
+    × (length (now (a .1 .1 .0)) ≡ room))
     (λ κs x e. left (sending h (written x (now (e .1 .1 .0)))))
 LeavesStep h (rejects reason room) left = Leaves 2 hp-ufo-write-down.ps hp-ufo-write-down.r hp-ufo-write-down-reads.Post
     (λ κs a. (a .0 .kind ≡ 74) × (a .0 .reason ≡ reason) × (now (a .1 .0) ≡ []) × (length (now (a .1 .1 .0)) ≡ room))
     (λ κs x e. left (sending h (written x (now (e .1 .1 .0)))))
-LeavesStep h (serves datagram room) left = Bytes datagram → datagram among h .up → Leaves 1 hp-ufo-read-up.ps hp-ufo-read-up.r hp-ufo-read-up-reads.Post
+LeavesStep h (serves datagram room) left = Bytes datagram → datagram among h .up → Leaves 1 hp-ufo-read-up.ps hp-ufo-read-up.r
+    hp-ufo-read-up-reads.Post
     (λ κs a. now (a .0) ≡ datagram)
     (λ κs x e. LeavesEach h room datagram (x .packet .count) 0 (λ answers. left (sending h answers)))
 LeavesStep h (takes datagram room) left = datagram among h .down → Leaves 3 hp-take.ps hp-take.r hp-take-reads.Post
     (λ κs a. (a .0 ≡ h .kept) × (now (a .1 .0) ≡ h .area) × (now (a .1 .1 .0) ≡ datagram) × (length (now (a .1 .1 .1 .0)) ≡ room))
-    (λ κs x e. LeavesVisited (take (x .bytes) (now (e .1 .1 .1 .0))) (x .messages) 0 (λ delivered. left (withTaken h x (now (e .1 .0)) delivered)))
+    (λ κs x e. LeavesVisited (take (x .bytes) (now (e .1 .1 .1 .0))) (x .messages) 0
+    (λ delivered. left (withTaken h x (now (e .1 .0)) delivered)))
 LeavesStep h (asks sheet rule elapsed room) left = Leaves 0 hp-ask.ps hp-ask.r hp-ask-reads.Post
     (λ κs a. (a .0 ≡ h .kept) × (knownSheet (a .1 .0) ≡ taken sheet) × (ruleOf (a .1 .1 .0) ≡ rule) × (a .1 .1 .1 .0 ≡ elapsed))
     (λ κs x e. LeavesAsked room x (λ said. left (saying h (x .after) said)))

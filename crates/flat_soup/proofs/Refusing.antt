@@ -22,7 +22,8 @@ use Rattle.flat_packet.proofs.Refusing.{None, opened, unknown, beyond}
 
 -- a line of an unknown type; and one that goes on with a body
 module _ (A : Type 0) (d : List ℕ) (room : ℕ) where
-  pub unknown-line : (size : ℕ) → length d ≡ size → 0 < size → unfit 4098 size 3 ≡ settle {A = A} (opened (1 atMost length d) 4098 d (refused 3)) d room
+  pub unknown-line : (size : ℕ) → length d ≡ size → 0 < size
+      → unfit 4098 size 3 ≡ settle {A = A} (opened (1 atMost length d) 4098 d (refused 3)) d room
   unknown-line size l h = unknown A d room (1 atMost length d) 4098 size (le-leb 1 (length d) (omega arith)) l
 
   pub beyond-line : (size : ℕ) (body : List ℕ) (reply : Reply) (v : Verdict A) → length d ≡ size + length body → 0 < length body
@@ -33,7 +34,8 @@ module _ (p : Packet) (body : List ℕ) (room : ℕ) where
   size : (kind n : ℕ) (fields : List ℕ) → length fields ≡ n → length (line kind (fields ++ body)) ≡ 2 + n + length body
   size kind n fields l = length-line kind (fields ++ body) ∙ simp (length-append, l) (omega arith)
 
-  pub unknown-type : None (43 ∷ 83 ∷ 85 ∷ 65 ∷ 74 ∷ 76 ∷ 72 ∷ 90 ∷ 82 ∷ 79 ∷ []) (p .kind) → soupReply p body room ≡ sent (line (p .kind) body) room
+  pub unknown-type : None (43 ∷ 83 ∷ 85 ∷ 65 ∷ 74 ∷ 76 ∷ 72 ∷ 90 ∷ 82 ∷ 79 ∷ []) (p .kind)
+      → soupReply p body room ≡ sent (line (p .kind) body) room
   unfolding soupReply soupBare read
   unknown-type u =
       rw (
@@ -51,7 +53,8 @@ module _ (p : Packet) (body : List ℕ) (room : ℕ) where
       (unknown-line _ (line (p .kind) body) room (2 + length body) (omega (arith, length-line (p .kind) body)) (omega arith))
 
   module _ (h : 0 < length body) where
-    pub accept-with-body : p .kind ≡ 65 → length (p .name) ≡ 10 → soupReply p body room ≡ sent (line 65 ((p .name ++ written (p .number)) ++ body)) room
+    pub accept-with-body : p .kind ≡ 65 → length (p .name) ≡ 10
+        → soupReply p body room ≡ sent (line 65 ((p .name ++ written (p .number)) ++ body)) room
     unfolding soupReply read
     accept-with-body k a =
         let fields = p .name ++ written (p .number) in
@@ -71,7 +74,8 @@ module _ (p : Packet) (body : List ℕ) (room : ℕ) where
         rw k (beyond-line _ (line 76 (fields ++ body)) room 48 body _ _ (size 76 46 fields l) h)
 
     -- H Z R O
-    pub bare-with-body : (p .kind ≡ 72) ⊎ ((p .kind ≡ 90) ⊎ ((p .kind ≡ 82) ⊎ (p .kind ≡ 79))) → soupReply p body room ≡ sent (line (p .kind) body) room
+    pub bare-with-body : (p .kind ≡ 72) ⊎ ((p .kind ≡ 90) ⊎ ((p .kind ≡ 82) ⊎ (p .kind ≡ 79)))
+        → soupReply p body room ≡ sent (line (p .kind) body) room
     unfolding soupReply soupBare read
     bare-with-body (inl k) = rw k (beyond-line _ (line 72 body) room 2 body _ _ (size 72 0 [] (omega arith)) h)
     bare-with-body (inr (inl k)) = rw k (beyond-line _ (line 90 body) room 2 body _ _ (size 90 0 [] (omega arith)) h)

@@ -13,7 +13,8 @@ use Rattle.decimal.specs.Decimal.{written}
 use Rattle.decimal.proofs.Written.{read-written, length-written}
 use Rattle.soup.specs.Packet as soup
 use Rattle.soup.specs.Packet.{line, carries, write, Fit}
-use Rattle.soup.specs.Read.{field, payload, opening, lineChecks, sizedChecks, rejectChecks, acceptChecks, loginChecks, rejectOf, acceptOf, loginOf, read}
+use Rattle.soup.specs.Read.{field, payload, opening, lineChecks, sizedChecks, rejectChecks, acceptChecks, loginChecks, rejectOf, acceptOf}
+use Rattle.soup.specs.Read.{loginOf, read}
 use Rattle.soup.specs.Reading.{packetOf, readingOf}
 use Rattle.soup.specs.Spelling.{spelling, padded}
 use Rattle.soup.proofs.Lines.{payload-line, field-in}
@@ -26,7 +27,8 @@ use Rattle.flat_packet.specs.declared.Read.{Read}
 use Rattle.flat_packet.specs.Packets.{bare, named, rejected, payload as carried, loggedIn}
 use Rattle.flat_packet.specs.Fitting.{alone}
 use Rattle.wire.proofs.Numbered.{never-checked, never-taken, never-under, never-either}
-use Rattle.flat_packet.proofs.Round.{bodyOf, Flat, padded-right-text, padded-left-text, same-name, same-user, told-as-0, Round, rounds, unfit-not-given, given-no-body, given-by-kind, settled}
+use Rattle.flat_packet.proofs.Round.{bodyOf, Flat, padded-right-text, padded-left-text, same-name, same-user, told-as-0, Round, rounds}
+use Rattle.flat_packet.proofs.Round.{unfit-not-given, given-no-body, given-by-kind, settled}
 use Rattle.flat_soup.specs.Reading.{flatSoup, soupRead}
 use Rattle.flat_soup.specs.Writing.{soupBare, soupReply}
 
@@ -44,7 +46,8 @@ never-0 d =
     (never-either (k is 83) _ _ (never-taken (lineChecks d) _ refl)
     (never-either (k is 72) _ _ (never-taken (sizedChecks 2 d) _ refl)
     (never-either (k is 90) _ _ (never-taken (sizedChecks 2 d) _ refl)
-    (never-either (k is 76) _ _ (never-checked (sizedChecks 48 d) _ refl (never-taken (loginChecks (field 1 6 d) (field 7 10 d) (field 17 10 d) (field 27 20 d)) _ refl))
+    (never-either (k is 76) _ _ (never-checked (sizedChecks 48 d) _ refl
+    (never-taken (loginChecks (field 1 6 d) (field 7 10 d) (field 17 10 d) (field 27 20 d)) _ refl))
     (never-either (k is 85) _ _ (never-taken (lineChecks d) _ refl)
     (never-either (k is 82) _ _ (never-taken (sizedChecks 2 d) _ refl)
     (never-either (k is 79) _ _ (never-taken (sizedChecks 2 d) _ refl)
@@ -55,7 +58,8 @@ inside : (s : List ℕ) → take (length s) (s ++ 10 ∷ []) ≡ s
 inside s = take-at s (10 ∷ []) (length s) refl
 
 -- a lawful packet laid flat, with its body, has its type byte and is written as that packet
-flat-again : (q : soup.Packet) → Fit q → let p = flatSoup (packetOf q) .packet in (p .kind ≡ getD (write q) 0 0) × ((room : ℕ) → soupReply p (bodyOf p (write q)) room ≡ reply q room)
+flat-again : (q : soup.Packet) → Fit q → let p = flatSoup (packetOf q) .packet in (p .kind ≡ getD (write q) 0 0)
+    × ((room : ℕ) → soupReply p (bodyOf p (write q)) room ≡ reply q room)
 unfolding soupReply soupBare Fit
 flat-again (soup.debug text) f = (refl, λ room. rw (inside text))
 flat-again (soup.accept session number) f = (refl, λ room. rw (same-name session (padded-left-text 10 session (f .0))))
@@ -63,8 +67,14 @@ flat-again (soup.reject reason) f = (refl, λ room. refl)
 flat-again (soup.sequenced message) f = (refl, λ room. rw (inside message))
 flat-again soup.serverHeartbeat f = (refl, λ room. refl)
 flat-again soup.endOfSession f = (refl, λ room. refl)
-flat-again (soup.login user password session number) f =
-    (refl, λ room. rw (same-user user (padded-right-text 6 user (f .0)), same-name password (padded-right-text 10 password (f .1)), same-name session (padded-left-text 10 session (f .2))))
+flat-again (soup.login user password session number) f = (
+  refl,
+  λ room. rw (
+    same-user user (padded-right-text 6 user (f .0)),
+    same-name password (padded-right-text 10 password (f .1)),
+    same-name session (padded-left-text 10 session (f .2)),
+  ),
+)
 flat-again (soup.unsequenced message) f = (refl, λ room. rw (inside message))
 flat-again soup.clientHeartbeat f = (refl, λ room. refl)
 flat-again soup.logout f = (refl, λ room. refl)
@@ -98,14 +108,17 @@ module _ (d : List ℕ) (b : Bytes d) where
   took P = told-as-0 (λ v. flatSoup (readingOf v)) P (λ n. refl) (read d) (never-0 d)
 
   -- What was read, written with its body, is its spelling.
-  pub read-then-written : (room : ℕ) → soupRead d .refusal ≡ 0 → let p = soupRead d .packet in soupReply p (bodyOf p d) room ≡ within room (spelling d)
+  pub read-then-written : (room : ℕ) → soupRead d .refusal ≡ 0 → let p = soupRead d .packet in
+      soupReply p (bodyOf p d) room ≡ within room (spelling d)
   read-then-written room e =
       let p = soupRead d .packet in
-      let s : bodyOf p (spelling d) ≡ bodyOf p d = took (λ r. bodyOf (r .packet) (spelling d) ≡ bodyOf (r .packet) d) (λ q t. body-stays d q (read-is-written d q b t .1)) e in
+      let s : bodyOf p (spelling d) ≡ bodyOf p d = took (λ r. bodyOf (r .packet) (spelling d) ≡ bodyOf (r .packet) d)
+      (λ q t. body-stays d q (read-is-written d q b t .1)) e in
       ap (λ (x : List ℕ). soupReply p x room) (sym s) ∙ round e .1 room
 
   -- These are the same bytes, unless its number is padded with noughts.
-  pub same-bytes : (room : ℕ) → soupRead d .refusal ≡ 0 → padded d ≡ false → let p = soupRead d .packet in soupReply p (bodyOf p d) room ≡ within room d
+  pub same-bytes : (room : ℕ) → soupRead d .refusal ≡ 0 → padded d ≡ false → let p = soupRead d .packet in
+      soupReply p (bodyOf p d) room ≡ within room d
   same-bytes room e u =
       read-then-written room e ∙ ap (within room) (took (λ r. spelling d ≡ d) (λ q t. own-spelling d q b t u) e)
 
@@ -113,7 +126,8 @@ module _ (d : List ℕ) (b : Bytes d) where
   pub spelling-then-read : soupRead d .refusal ≡ 0 → soupRead (spelling d) ≡ soupRead d
   spelling-then-read = took (λ r. soupRead (spelling d) ≡ r) (λ q t. rw (read-alike d q b t))
 
-  pub spelling-then-written : (room : ℕ) → soupRead d .refusal ≡ 0 → let p = soupRead (spelling d) .packet in soupReply p (bodyOf p (spelling d)) room ≡ within room (spelling d)
+  pub spelling-then-written : (room : ℕ) → soupRead d .refusal ≡ 0 → let p = soupRead (spelling d) .packet in
+      soupReply p (bodyOf p (spelling d)) room ≡ within room (spelling d)
   spelling-then-written room e = rw (spelling-then-read e) (round e .1 room)
 
   -- The flat kind of a packet is its type byte.
@@ -140,7 +154,8 @@ record Checked (q : soup.Packet) : Type 0 where
   decide : read (write q) ≡ checked checks (taken q)
 
 -- under any of the three types
-checked-payload : (kind : ℕ) (packet : List ℕ → soup.Packet) (s : List ℕ) → let d = line kind s in write (packet s) ≡ d → read d ≡ checked (opening d) (checked (lineChecks d) (taken (packet (payload d)))) → Checked (packet s)
+checked-payload : (kind : ℕ) (packet : List ℕ → soup.Packet) (s : List ℕ) → let d = line kind s in write (packet s) ≡ d
+    → read d ≡ checked (opening d) (checked (lineChecks d) (taken (packet (payload d)))) → Checked (packet s)
 checked-payload kind packet s w r =
     let d = line kind s in
     record { checks = opening d ++ lineChecks d; decide = rw w (r ∙ rw (payload-line kind s)) }
@@ -208,7 +223,8 @@ module _ (p : Packet) (f : Flat p) (body : List ℕ) (room : ℕ) (d : List ℕ)
   accept-as : alone 4098 32 body (reply (soup.accept (p .name) (p .number)) room) ≡ taken d → soupRead d ≡ named (p .name) (p .number)
   accept-as e = alone-as (soup.accept (p .name) (p .number)) 32 (checked-accept p f) e ∙ rw (same-name (p .name) (f .name))
 
-  login-as : alone 4098 48 body (reply (soup.login (p .user) (p .password) (p .name) (p .number)) room) ≡ taken d → soupRead d ≡ loggedIn (p .user) (p .password) (p .name) (p .number) 0
+  login-as : alone 4098 48 body (reply (soup.login (p .user) (p .password) (p .name) (p .number)) room) ≡ taken d
+      → soupRead d ≡ loggedIn (p .user) (p .password) (p .name) (p .number) 0
   login-as e =
       alone-as (soup.login (p .user) (p .password) (p .name) (p .number)) 48 (checked-login p f) e
       ∙ rw (same-user (p .user) (f .user), same-name (p .password) (f .password), same-name (p .name) (f .name))

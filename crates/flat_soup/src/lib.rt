@@ -103,7 +103,8 @@ fn bare_written(kind: u8, body: &[u8], out: &mut [u8]) -> Written
 }
 
 fn login_written(fields: Packet, out: &mut [u8]) -> Written
-    ensures { λ r. ⌜ Settled (reply (login (fields .user) (fields .password) (fields .name) (fields .number)) (length (now (out .entry)))) (now (out .entry)) r (now (out .exit)) ⌝ }
+    ensures { λ r. ⌜ Settled (reply (login (fields .user) (fields .password) (fields .name) (fields .number)) (length (now (out .entry))))
+        (now (out .entry)) r (now (out .exit)) ⌝ }
 {
     let number = fields.number;
     let user_text = fields.user;

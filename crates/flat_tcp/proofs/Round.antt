@@ -52,7 +52,8 @@ module _ (d : List ℕ) (q : Packet) (e : read d ≡ taken q) where
   body : take (length (drop (endIn d) d)) (drop (startOf (kindIn d)) d) ≡ drop (endIn d) d
   body =
       by-test (mostOf (kindIn d) is 0)
-      (λ z. let f = framed .rest in let m = eqb-true (mostOf (kindIn d)) 0 z in let l = drop-of-length-le (drop (endIn d) d) {i = 0} (omega arith) in rw l)
+      (λ z. let f = framed .rest in let m = eqb-true (mostOf (kindIn d)) 0 z in let l = drop-of-length-le (drop (endIn d) d) {i = 0}
+      (omega arith) in rw l)
       (λ z. rw z (take-length (drop (endIn d) d)))
 
   -- the fields laid flat are those of the packet
@@ -89,7 +90,8 @@ abbrev pub kept : FlatTcp → List ℕ → FlatTcpReading
 kept p body = flatTcp (tcpOf (taken (packetOf (fieldsOf p) body)))
 
 -- What was written is read with the same fields, and nothing else.
-pub written-then-read : (p : FlatTcp) → Ranged (fieldsOf p) → (body : List ℕ) (room : ℕ) (d : List ℕ) → tcpReply p body room ≡ taken d → tcpRead d ≡ kept p body
+pub written-then-read : (p : FlatTcp) → Ranged (fieldsOf p) → (body : List ℕ) (room : ℕ) (d : List ℕ) → tcpReply p body room ≡ taken d
+    → tcpRead d ≡ kept p body
 unfolding valuesOf
 written-then-read p f body room d e =
     let q = packetOf (fieldsOf p) body in

@@ -14,15 +14,46 @@ use Rattle.flat_tcp.specs.declared.FlatTcpReading.{FlatTcpReading}
 
 -- on a refusal every other number is 0
 abbrev pub flatTcp : Tcp → FlatTcpReading
-flatTcp (Refused n) = record { refusal = n; packet = record { kind = 0; letter = 0; count = 0; session = 0; number = 0; top = 0; start = 0; length = 0 } }
-flatTcp (Packet p start length) = record { refusal = 0; packet = record { kind = p .kind; letter = p .letter; count = p .count; session = p .session .0; number = p .number .0; top = p .top .0; start = start; length = length } }
+flatTcp (Refused n) = record {
+  refusal = n;
+  packet = record {
+    kind = 0;
+    letter = 0;
+    count = 0;
+    session = 0;
+    number = 0;
+    top = 0;
+    start = 0;
+    length = 0;
+  };
+}
+flatTcp (Packet p start length) = record {
+  refusal = 0;
+  packet = record {
+    kind = p .kind;
+    letter = p .letter;
+    count = p .count;
+    session = p .session .0;
+    number = p .number .0;
+    top = p .top .0;
+    start = start;
+    length = length;
+  };
+}
 
 abbrev pub tcpRead : List ℕ → FlatTcpReading
 tcpRead d = flatTcp (tcpOf (read d))
 
 -- what is written of them: where a token or payload stood is not looked at
 abbrev pub fieldsOf : FlatTcp → Fields
-fieldsOf p = record { kind = p .kind; letter = p .letter; count = p .count; session = record { 0 = p .session }; number = record { 0 = p .number }; top = record { 0 = p .top } }
+fieldsOf p = record {
+  kind = p .kind;
+  letter = p .letter;
+  count = p .count;
+  session = record { 0 = p .session };
+  number = record { 0 = p .number };
+  top = record { 0 = p .top };
+}
 
 abbrev pub tcpReply : FlatTcp → List ℕ → ℕ → Reply
 tcpReply p body room = reply (fieldsOf p) body room

@@ -24,7 +24,8 @@ module _ (p : Packet) (body : List ℕ) (room : ℕ) where
       (unknown-datagram _ (p .kind ∷ body) room (1 + length body) (omega arith) (omega arith))
 
   module _ (h : 0 < length body) where
-    pub accept-with-body : p .kind ≡ 65 → length (p .name) ≡ 10 → downReply p body room ≡ sent (write (accept (p .name) (p .number)) ++ body) room
+    pub accept-with-body : p .kind ≡ 65 → length (p .name) ≡ 10
+        → downReply p body room ≡ sent (write (accept (p .name) (p .number)) ++ body) room
     unfolding downReply read readA
     accept-with-body k l =
         let d = write (accept (p .name) (p .number)) ++ body in

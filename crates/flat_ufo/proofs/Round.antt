@@ -25,7 +25,8 @@ use Rattle.flat_packet.specs.declared.Packet.{Packet}
 use Rattle.flat_packet.specs.declared.Read.{Read}
 use Rattle.flat_packet.specs.Packets.{named, rejected, numbered}
 use Rattle.flat_packet.specs.Fitting.{alone}
-use Rattle.flat_packet.proofs.Round.{bodyOf, body-behind, blocks, counted-blocks, Flat, padded-right-text, same-name, Round, rounds, unfit-not-given, given-no-body, given-by-kind, given}
+use Rattle.flat_packet.proofs.Round.{bodyOf, body-behind, blocks, counted-blocks, Flat, padded-right-text, same-name, Round, rounds}
+use Rattle.flat_packet.proofs.Round.{unfit-not-given, given-no-body, given-by-kind, given}
 use Rattle.flat_ufo.specs.Reading.{flatDown, downRead}
 use Rattle.flat_ufo.specs.Writing.{downReply}
 
@@ -48,7 +49,8 @@ unfolding bytesOf
 blocks-laid first count body = refl
 
 -- a lawful packet laid flat, with its body, has its type byte and is written as that packet
-flat-again : (q : ufo.Packet) → Fit q → let p = flatDown (length (write q)) (downOf (taken q)) .packet in (p .kind ≡ getD (write q) 0 0) × ((room : ℕ) → downReply p (bodyOf p (write q)) room ≡ replyTo q room)
+flat-again : (q : ufo.Packet) → Fit q → let p = flatDown (length (write q)) (downOf (taken q)) .packet in (p .kind ≡ getD (write q) 0 0)
+    × ((room : ℕ) → downReply p (bodyOf p (write q)) room ≡ replyTo q room)
 unfolding downReply
 flat-again (ufo.accept session next) f = (refl, λ room. rw (same-name session (padded-right-text 10 session (f .ten, f .letters))))
 flat-again (ufo.reject reason) f = (refl, λ room. refl)
@@ -92,26 +94,34 @@ module _ (p : Packet) (f : Flat p) (body : List ℕ) (room : ℕ) (d : List ℕ)
   As kind = downRead d ≡ keptAs kind p body
 
   -- a type without a body
-  alone-as : (q : ufo.Packet) (cs : List Check) (size : ℕ) (reply : Reply) → reply ≡ checked cs (within room (write q)) → (Passed cs → read (write q) ≡ checked cs (taken q)) → alone 1472 size body reply ≡ taken d → downRead d ≡ flatDown (length d) (downOf (taken q))
-  alone-as q cs size reply says decide e = rw (given read cs q (write q) room d (λ c. decide c ∙ passed-all cs (taken q) c) (sym says ∙ given-no-body 1472 size body reply d e .1) .back)
+  alone-as : (q : ufo.Packet) (cs : List Check) (size : ℕ) (reply : Reply) → reply ≡ checked cs (within room (write q))
+      → (Passed cs → read (write q) ≡ checked cs (taken q)) → alone 1472 size body reply ≡ taken d
+      → downRead d ≡ flatDown (length d) (downOf (taken q))
+  alone-as q cs size reply says decide e =
+      rw (given read cs q (write q) room d (λ c. decide c ∙ passed-all cs (taken q) c)
+      (sym says ∙ given-no-body 1472 size body reply d e .1) .back)
 
   accept-as : alone 1472 15 body (acceptReply (p .name) (p .number) room) ≡ taken d → downRead d ≡ named (p .name) (p .number)
   accept-as e =
       let n = p .number in
       let l = f .name .0 in
-      alone-as (ufo.accept (p .name) n) (ofAccept (p .name) n) 15 (acceptReply (p .name) n room) (accept-reply (p .name) n room l) (λ c. laid-accept (p .name) n l (omega (arith, leb-true n (2 ^ 32 - 1) (c .1 .1 .1 .0)))) e
+      alone-as (ufo.accept (p .name) n) (ofAccept (p .name) n) 15 (acceptReply (p .name) n room) (accept-reply (p .name) n room l)
+      (λ c. laid-accept (p .name) n l (omega (arith, leb-true n (2 ^ 32 - 1) (c .1 .1 .1 .0)))) e
       ∙ rw (same-name (p .name) (f .name))
 
   end-as : alone 1472 5 body (endReply (p .number) room) ≡ taken d → downRead d ≡ numbered 69 0 (p .number)
   end-as =
       let n = p .number in
-      alone-as (ufo.end n) (ofEnd n) 5 (endReply n room) (end-reply n room) (λ c. laid-end n (omega (arith, leb-true n (2 ^ 32 - 2) (c .0))))
+      alone-as (ufo.end n) (ofEnd n) 5 (endReply n room) (end-reply n room)
+      (λ c. laid-end n (omega (arith, leb-true n (2 ^ 32 - 2) (c .0))))
 
   messages-as : messagesReply (p .number) (p .count) body room ≡ taken d → downRead d ≡ blocks 83 0 (p .number) (p .count) 7 body
   messages-as e =
       let n = p .number in
       let c = p .count in
-      let g = given read (ofMessages n c body) _ (laid n c body) room d (λ h. laid-messages n c body (omega (arith, leb-true (n + c) (2 ^ 32 - 1) (h .1 .1 .1 .0))) (f .count) ∙ passed-all (ofMessages n c body) _ h) (sym (messages-reply n c body room (f .count)) ∙ e) in
+      let g = given read (ofMessages n c body) _ (laid n c body) room d
+      (λ h. laid-messages n c body (omega (arith, leb-true (n + c) (2 ^ 32 - 1) (h .1 .1 .1 .0))) (f .count)
+      ∙ passed-all (ofMessages n c body) _ h) (sym (messages-reply n c body room (f .count)) ∙ e) in
       rw (g .back, ← g .same, length-laid n c body, count-cut c body (g .passed .1 .0)) (counted-blocks 83 0 n c 7 body)
 
   -- What was written is read with the same fields, and nothing else.
@@ -120,7 +130,8 @@ module _ (p : Packet) (f : Flat p) (body : List ℕ) (room : ℕ) (d : List ℕ)
   written-then-read =
       let reason = p .reason in
       given-by-kind As (p .kind) 65 _ _ d accept-as
-      (given-by-kind As (p .kind) 74 _ _ d (alone-as (ufo.reject reason) (ofReject reason) 2 (rejectReply reason room) (reject-reply reason room) (λ _. laid-reject reason))
+      (given-by-kind As (p .kind) 74 _ _ d
+      (alone-as (ufo.reject reason) (ofReject reason) 2 (rejectReply reason room) (reject-reply reason room) (λ _. laid-reject reason))
       (given-by-kind As (p .kind) 83 _ _ d messages-as
       (given-by-kind As (p .kind) 69 _ _ d end-as
       (unfit-not-given 1472 (1 + length body) 3 d))))

@@ -1,4 +1,5 @@
--- UFO, client to server, and its round: a message that was read is written as the same block, and one that was written is read with the same fields.
+-- UFO, client to server, and its round: a message that was read is written as the same block, and one that was written is read with the
+-- same fields.
 -- Assumes nothing.
 use Prim.Native.Nat.{ℕ, _+_, _-_}
 use mathlib.Core.Path.{_≡_, refl, sym, _∙_}
@@ -20,7 +21,8 @@ use Rattle.blocks.specs.Blocks.{frame, frames, Cut, torn, whole, upstream, stat
 use Rattle.blocks.proofs.Frames.{length-frame, front-stated}
 use Rattle.ufo.specs.Numbers.{highest, held}
 use Rattle.ufo_up.specs.Up as up
-use Rattle.ufo_up.specs.Up.{Message, writeMessage, writeUp, FitMessage, FitAll, checksL, checksT, checksU, checksAlone, readL, readT, readU, readAlone, readMessage, readEach, readCut, readUp, upstreamOf, upOf, messageFrom, messageIn}
+use Rattle.ufo_up.specs.Up.{Message, writeMessage, writeUp, FitMessage, FitAll, checksL, checksT, checksU, checksAlone, readL, readT, readU}
+use Rattle.ufo_up.specs.Up.{readAlone, readMessage, readEach, readCut, readUp, upstreamOf, upOf, messageFrom, messageIn}
 use Rattle.ufo_up.proofs.UpExactOne.{length-message, leftL, leftT}
 use Rattle.ufo_up.proofs.Exact.{read-is-written, read-one}
 use Rattle.ufo_up_write.specs.WriteUp.{reply}
@@ -29,14 +31,16 @@ use Rattle.flat_packet.specs.declared.Packet.{Packet}
 use Rattle.flat_packet.specs.declared.Read.{Read}
 use Rattle.flat_packet.specs.Packets.{bare, payload, loggedIn, requested}
 use Rattle.flat_packet.specs.Fitting.{alone}
-use Rattle.flat_packet.proofs.Round.{bodyOf, Flat, padded-right-text, same-name, same-user, told-as-0, unfit-not-given, given-no-body, given-by-kind, given}
+use Rattle.flat_packet.proofs.Round.{bodyOf, Flat, padded-right-text, same-name, same-user, told-as-0, unfit-not-given, given-no-body}
+use Rattle.flat_packet.proofs.Round.{given-by-kind, given}
 use Rattle.flat_ufo_up.specs.Reading.{flatUpstream, upRead, flatUp, messageRead}
 use Rattle.flat_ufo_up.specs.Writing.{messageReply}
 
 -- ---- what was read
 
 -- no refusal is told as 0
-never-into : {A B : Type 0} (v : Verdict A) (next : A → Verdict B) → (v ≡ refused 0 → ⊥) → ((a : A) → next a ≡ refused 0 → ⊥) → v into next ≡ refused 0 → ⊥
+never-into : {A B : Type 0} (v : Verdict A) (next : A → Verdict B) → (v ≡ refused 0 → ⊥) → ((a : A) → next a ≡ refused 0 → ⊥)
+    → v into next ≡ refused 0 → ⊥
 never-into (refused n) next f g e = let z : n ≡ 0 = cc in f (rw z)
 never-into (taken a) next f g e = g a e
 
@@ -80,7 +84,8 @@ record Found (s : List ℕ) (at place : ℕ) (m : Message) : Type 0 where
   block : drop skipped s ≡ frame (writeMessage m) ++ after
   fit : FitMessage m
 
-found-from : (ms : List Message) (at place : ℕ) (m : Message) → FitAll ms → messageFrom at ms place ≡ taken m → Found (writeUp ms) at place m
+found-from : (ms : List Message) (at place : ℕ) (m : Message) → FitAll ms → messageFrom at ms place ≡ taken m
+    → Found (writeUp ms) at place m
 unfolding messageFrom frames
 found-from [] at place m f e = not-both (refused 4) 4 m refl e
 found-from (x ∷ ms) at place m f e =
@@ -123,17 +128,26 @@ module _ (d : List ℕ) (place : ℕ) (m : Message) (after : List ℕ) (s : drop
       rw (size f, s) (take-at (frame w) after (2 + length w) (length-frame w))
 
 -- and its body, if it has one
-body-stands : (d : List ℕ) (place : ℕ) (b after : List ℕ) → FitMessage (up.unsequenced b) → drop place d ≡ frame (85 ∷ b) ++ after → take (length b) (drop (endAt d place - length b) d) ≡ b
+body-stands : (d : List ℕ) (place : ℕ) (b after : List ℕ) → FitMessage (up.unsequenced b) → drop place d ≡ frame (85 ∷ b) ++ after
+    → take (length b) (drop (endAt d place - length b) d) ≡ b
 unfolding bytesOf
 body-stands d place b after f s =
     let start : endAt d place - length b ≡ place + 3 = omega (arith, size d place (up.unsequenced b) after s f) in
     rw (start, ← drop-drop 3 place d, s) (take-at b after (length b) refl)
 
 -- laid flat, with its body, it has its type byte and is written as that message
-flat-again : (d : List ℕ) (place : ℕ) (m : Message) (after : List ℕ) → FitMessage m → drop place d ≡ frame (writeMessage m) ++ after → let p = flatUp (upOf (endAt d place) (taken m)) .packet in (p .kind ≡ getD (writeMessage m ++ after) 0 0) × ((room : ℕ) → messageReply p (bodyOf p d) room ≡ reply m room)
+flat-again : (d : List ℕ) (place : ℕ) (m : Message) (after : List ℕ) → FitMessage m → drop place d ≡ frame (writeMessage m) ++ after
+    → let p = flatUp (upOf (endAt d place) (taken m)) .packet in (p .kind ≡ getD (writeMessage m ++ after) 0 0)
+    × ((room : ℕ) → messageReply p (bodyOf p d) room ≡ reply m room)
 unfolding messageReply
-flat-again d place (up.login user password session) after f s =
-    (refl, λ room. rw (same-user user (padded-right-text 6 user (f .0)), same-name password (padded-right-text 10 password (f .1)), same-name session (padded-right-text 10 session (f .2))))
+flat-again d place (up.login user password session) after f s = (
+  refl,
+  λ room. rw (
+    same-user user (padded-right-text 6 user (f .0)),
+    same-name password (padded-right-text 10 password (f .1)),
+    same-name session (padded-right-text 10 session (f .2)),
+  ),
+)
 flat-again d place (up.request first count) after f s = (refl, λ room. refl)
 flat-again d place (up.unsequenced b) after f s = (refl, λ room. rw (body-stands d place b after f s))
 flat-again d place up.heartbeat after f s = (refl, λ room. refl)
@@ -141,7 +155,8 @@ flat-again d place up.logout after f s = (refl, λ room. refl)
 
 module _ (d : List ℕ) (b : Bytes d) (place : ℕ) where
   abbrev RoundAt : Packet → Type 0
-  RoundAt p = (p .kind ≡ getD d (place + 2) 0) × ((room : ℕ) → messageReply p (bodyOf p d) room ≡ within room (take (2 + stated (drop place d)) (drop place d)))
+  RoundAt p = (p .kind ≡ getD d (place + 2) 0)
+      × ((room : ℕ) → messageReply p (bodyOf p d) room ≡ within room (take (2 + stated (drop place d)) (drop place d)))
 
   round : messageRead d place .refusal ≡ 0 → RoundAt (messageRead d place .packet)
   round =
@@ -150,11 +165,15 @@ module _ (d : List ℕ) (b : Bytes d) (place : ℕ) where
       let r = found d b place m e in
       let same : r .skipped ≡ place = omega (arith, r .there) in
       let s : drop place d ≡ frame (writeMessage m) ++ r .after = rw same at (r .block) in
-      let a = flat-again d place m (r .after) (r .fit) s in
-      (a .0 ∙ sym (type-byte d place m (r .after) s), λ room. a .1 room ∙ rw (whole-block d place m (r .after) s (r .fit)) (reply-fit m room (r .fit))))
+      let a = flat-again d place m (r .after) (r .fit) s in (
+        a .0 ∙ sym (type-byte d place m (r .after) s),
+        λ room. a .1 room ∙ rw (whole-block d place m (r .after) s (r .fit))
+            (reply-fit m room (r .fit)),
+      ))
 
   -- What was read of a message, written with its body, is its block.
-  pub read-then-written : (room : ℕ) → messageRead d place .refusal ≡ 0 → let p = messageRead d place .packet in messageReply p (bodyOf p d) room ≡ within room (take (2 + stated (drop place d)) (drop place d))
+  pub read-then-written : (room : ℕ) → messageRead d place .refusal ≡ 0 → let p = messageRead d place .packet in
+      messageReply p (bodyOf p d) room ≡ within room (take (2 + stated (drop place d)) (drop place d))
   read-then-written room e = round e .1 room
 
   -- The flat kind of a message is its type byte.
@@ -186,7 +205,8 @@ module _ (p : Packet) (f : Flat p) (body : List ℕ) (b : Bytes body) (room : �
   As kind = messageRead d 0 ≡ keptAs kind p body
 
   -- a message of so many bytes
-  message-as : (m : Message) (size : ℕ) (cs : List Check) → (Passed cs → FitMessage m) → length (writeMessage m) ≡ size → checked cs (within room (frame (writeMessage m))) ≡ taken d → messageRead d 0 ≡ flatUp (upOf (2 + size) (taken m))
+  message-as : (m : Message) (size : ℕ) (cs : List Check) → (Passed cs → FitMessage m) → length (writeMessage m) ≡ size
+      → checked cs (within room (frame (writeMessage m))) ≡ taken d → messageRead d 0 ≡ flatUp (upOf (2 + size) (taken m))
   unfolding messageFrom
   message-as m size cs fit l e =
       let w = writeMessage m in
@@ -195,10 +215,13 @@ module _ (p : Packet) (f : Flat p) (body : List ℕ) (b : Bytes body) (room : �
       rw (g .back, ← g .same, says)
 
   -- and without a body
-  alone-as : (m : Message) (size : ℕ) (cs : List Check) → (Passed cs → FitMessage m) → length (writeMessage m) ≡ size → reply m room ≡ checked cs (within room (frame (writeMessage m))) → alone 1472 (2 + size) body (reply m room) ≡ taken d → messageRead d 0 ≡ flatUp (upOf (2 + size) (taken m))
+  alone-as : (m : Message) (size : ℕ) (cs : List Check) → (Passed cs → FitMessage m) → length (writeMessage m) ≡ size
+      → reply m room ≡ checked cs (within room (frame (writeMessage m))) → alone 1472 (2 + size) body (reply m room) ≡ taken d
+      → messageRead d 0 ≡ flatUp (upOf (2 + size) (taken m))
   alone-as m size cs fit l says e = message-as m size cs fit l (sym says ∙ given-no-body 1472 (2 + size) body (reply m room) d e .1)
 
-  login-as : alone 1472 29 body (reply (up.login (p .user) (p .password) (p .name)) room) ≡ taken d → messageRead d 0 ≡ loggedIn (p .user) (p .password) (p .name) 0 29
+  login-as : alone 1472 29 body (reply (up.login (p .user) (p .password) (p .name)) room) ≡ taken d
+      → messageRead d 0 ≡ loggedIn (p .user) (p .password) (p .name) 0 29
   login-as e =
       let u = p .user in
       let w = p .password in
@@ -206,20 +229,25 @@ module _ (p : Packet) (f : Flat p) (body : List ℕ) (b : Bytes body) (room : �
       let hu = f .user .0 in
       let hw = f .password .0 in
       let hs = f .name .0 in
-      alone-as (up.login u w s) 27 (leftL u w s) (λ c. ((hu, c .0), (hw, c .1 .0), (hs, c .1 .1 .0), not-true (blank u) (c .1 .1 .1 .0))) (simp (length-append, hu, hw, hs)) (reply-login u w s room hu hw hs) e
+      alone-as (up.login u w s) 27 (leftL u w s) (λ c. ((hu, c .0), (hw, c .1 .0), (hs, c .1 .1 .0), not-true (blank u) (c .1 .1 .1 .0)))
+      (simp (length-append, hu, hw, hs)) (reply-login u w s room hu hw hs) e
       ∙ rw (same-user u (f .user), same-name w (f .password), same-name s (f .name))
 
-  request-as : alone 1472 9 body (reply (up.request (p .number) (p .count)) room) ≡ taken d → messageRead d 0 ≡ requested 84 (p .number) (p .count) 9
+  request-as : alone 1472 9 body (reply (up.request (p .number) (p .count)) room) ≡ taken d
+      → messageRead d 0 ≡ requested 84 (p .number) (p .count) 9
   request-as =
       let n = p .number in
       let c = p .count in
-      alone-as (up.request n c) 7 (leftT n c ++ (held n else 7) ∷ []) (λ h. (nonzero n (h .0), omega (arith, leb-true n highest (h .1 .1 .0)), nonzero c (h .1 .0), f .count)) (simp (length-append, length-bytesOf)) (reply-request n c room (f .count))
+      alone-as (up.request n c) 7 (leftT n c ++ (held n else 7) ∷ [])
+      (λ h. (nonzero n (h .0), omega (arith, leb-true n highest (h .1 .1 .0)), nonzero c (h .1 .0), f .count))
+      (simp (length-append, length-bytesOf)) (reply-request n c room (f .count))
 
   unsequenced-as : reply (up.unsequenced body) room ≡ taken d → messageRead d 0 ≡ payload 85 3 (length body) (3 + length body)
   unsequenced-as e =
       let start : 2 + (1 + length body) - length body ≡ 3 = omega arith in
       let next : 2 + (1 + length body) ≡ 3 + length body = omega arith in
-      message-as (up.unsequenced body) (1 + length body) ((length body atMost 1469 else 2) ∷ []) (λ c. (b, leb-true (length body) 1469 (c .0))) (omega arith) (sym (reply-unsequenced body room) ∙ e)
+      message-as (up.unsequenced body) (1 + length body) ((length body atMost 1469 else 2) ∷ [])
+      (λ c. (b, leb-true (length body) 1469 (c .0))) (omega arith) (sym (reply-unsequenced body room) ∙ e)
       ∙ rw (start, next)
 
   -- What was written is read with the same fields, and nothing else: at place 0, where its block stands.

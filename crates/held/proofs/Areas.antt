@@ -60,7 +60,12 @@ module _ (area bs : List ℕ) (i j : ℕ) (apart : (i ≡ j) → ⊥) (small : l
       ap (take 1472) (drop-sets (1472 * j) area (1472 * i) bs (omega arith)))
       (λ e.
       let l = leb-false i j e in
-      rw (part (1472 * j) 1472 (sets area (1472 * i) bs), take-sets (1472 * j + 1472) area (1472 * i) bs (omega arith), part (1472 * j) 1472 area))
+      rw (
+        part (1472 * j) 1472 (sets area (1472 * i) bs),
+        take-sets (1472 * j + 1472) area (1472 * i) bs (omega arith),
+        part (1472 * j) 1472
+            area,
+      ))
 
   pub other-stated : stated (slotAt (sets area (1472 * i) bs) j) ≡ stated (slotAt area j)
   other-stated = same-stated (slotAt (sets area (1472 * i) bs) j) (slotAt area j) other-slot
@@ -74,8 +79,10 @@ module _ (area message : List ℕ) (i : ℕ) (h : i < 32) (fits : length message
   stored-slot =
       let l = length-frame message in
       let a : 1472 * i ≤ length area = omega arith in
-      ap (drop (1472 * i)) (sets-eq (frame message) area (1472 * i) (omega arith) ∙ append-assoc (take (1472 * i) area) (frame message) (drop (1472 * i + length (frame message)) area))
-      ∙ drop-at (take (1472 * i) area) (frame message ++ drop (1472 * i + length (frame message)) area) (1472 * i) (length-take-le (1472 * i) area a)
+      ap (drop (1472 * i)) (sets-eq (frame message) area (1472 * i) (omega arith) ∙ append-assoc (take (1472 * i) area) (frame message)
+      (drop (1472 * i + length (frame message)) area))
+      ∙ drop-at (take (1472 * i) area) (frame message ++ drop (1472 * i + length (frame message)) area) (1472 * i)
+      (length-take-le (1472 * i) area a)
 
   pub stored-stated : stated (slotAt (sets area (1472 * i) (frame message)) i) ≡ length message
   stored-stated = rw stored-slot (front-stated message (drop (1472 * i + length (frame message)) area) (omega arith))
@@ -84,5 +91,6 @@ module _ (area message : List ℕ) (i : ℕ) (h : i < 32) (fits : length message
   stored-first = rw stored-slot (front-first message (drop (1472 * i + length (frame message)) area) (omega arith))
 
 -- and so by number
-pub stored-message : (area message : List ℕ) (m : ℕ) → length message ≤ longest → areaSize ≤ length area → heldMessage (sets area (1472 * slotOf m) (frame message)) m ≡ message
+pub stored-message : (area message : List ℕ) (m : ℕ) → length message ≤ longest → areaSize ≤ length area
+    → heldMessage (sets area (1472 * slotOf m) (frame message)) m ≡ message
 stored-message area message m fits enough = stored-first area message (slotOf m) (omega arith) fits enough

@@ -16,14 +16,16 @@ use Rattle.held.proofs.Bits.{set-bit, clear-bit, no-bit}
 pub full-filled : (held i j : ℕ) → isFull (filled held i) j ≡ (isFull held j || j is i)
 full-filled held i j =
     by-test (isFull held i)
-    (λ e. rw e (by-test (eqb j i) (λ q. rw (q, or-true (isFull held j)) (rw (← eqb-true j i q) at e)) (λ q. rw q (sym (or-false (isFull held j))))))
+    (λ e. rw e (by-test (eqb j i) (λ q. rw (q, or-true (isFull held j)) (rw (← eqb-true j i q) at e))
+    (λ q. rw q (sym (or-false (isFull held j))))))
     (λ e. rw e (set-bit i j held e))
 
 pub full-freed : (held i j : ℕ) → isFull (freed held i) j ≡ (isFull held j && not (j is i))
 full-freed held i j =
     by-test (isFull held i)
     (λ e. rw e (clear-bit i j held e))
-    (λ e. rw e (by-test (eqb j i) (λ q. rw (q, and-false (isFull held j)) (rw (← eqb-true j i q) at e)) (λ q. rw q (sym (and-true (isFull held j))))))
+    (λ e. rw e (by-test (eqb j i) (λ q. rw (q, and-false (isFull held j)) (rw (← eqb-true j i q) at e))
+    (λ q. rw q (sym (and-true (isFull held j))))))
 
 pub none-full : (i : ℕ) → isFull 0 i ≡ false
 none-full = no-bit
@@ -63,7 +65,8 @@ unfolding freedFrom
 freed-gone zero held m j h = absurd (omega arith)
 freed-gone (suc k) held m zero h =
     let y : m + 0 ≡ m = omega arith in
-    rw y (free-stays k (freed held (slotOf m)) (suc m) m (rw (full-freed held (slotOf m) (slotOf m), eq-eqb (slotOf m) (slotOf m) refl) (and-false (full held m))))
+    rw y (free-stays k (freed held (slotOf m)) (suc m) m
+    (rw (full-freed held (slotOf m) (slotOf m), eq-eqb (slotOf m) (slotOf m) refl) (and-false (full held m))))
 freed-gone (suc k) held m (suc j) h =
     let t : m + suc j ≡ suc m + j = omega arith in
     rw t (freed-gone k (freed held (slotOf m)) (suc m) j (omega arith))

@@ -16,7 +16,8 @@ first-bit : (h : ℕ) → isFull h 0 ≡ (h % 2 is 1)
 first-bit h = let e : h / 1 ≡ h = omega arith in ap (λ (x : ℕ). x % 2 is 1) e
 
 pub next-bit : (h i : ℕ) → isFull h (suc i) ≡ isFull (h / 2) i
-next-bit h i = let e : 1 + i ≡ suc i = omega arith in ap (λ (x : ℕ). h / 2 ^ x % 2 is 1) (sym e) ∙ ap (λ (x : ℕ). x % 2 is 1) (sym (shr-shr h 1 i))
+next-bit h i = let e : 1 + i ≡ suc i = omega arith in ap (λ (x : ℕ). h / 2 ^ x % 2 is 1) (sym e) ∙ ap (λ (x : ℕ). x % 2 is 1)
+    (sym (shr-shr h 1 i))
 
 -- twice a power of two
 doubled : (i : ℕ) → 2 ^ suc i ≡ 2 ^ i * 2
@@ -47,7 +48,8 @@ set-bit zero (suc j) h e =
 set-bit (suc i) zero h e =
     rw (doubled i, first-bit (h + 2 ^ i * 2), first-bit h, last-stays h (2 ^ i), eqb·zero-suc i, or-false (h % 2 is 1))
 set-bit (suc i) (suc j) h e =
-    rw (doubled i, next-bit (h + 2 ^ i * 2) j, next-bit h j, halved h (2 ^ i), eqb·suc-suc j i) (set-bit i j (h / 2) (sym (next-bit h i) ∙ e))
+    rw (doubled i, next-bit (h + 2 ^ i * 2) j, next-bit h j, halved h (2 ^ i), eqb·suc-suc j i)
+    (set-bit i j (h / 2) (sym (next-bit h i) ∙ e))
 
 -- there is room for it
 pub set-fits : (w i h : ℕ) → h < 2 ^ w → i < w → isFull h i ≡ false → h + 2 ^ i < 2 ^ w

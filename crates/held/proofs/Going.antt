@@ -56,7 +56,9 @@ module _ (n held m : ℕ) where
   run-goes h e = by n h where
     by : (n : ℕ) → 0 < n → run n held m ≡ 1 + run (n - 1) held (m + 1)
     by zero h = absurd (omega arith)
-    by (suc n) h = let q : suc n - 1 ≡ n = omega arith in rw (e, q, ← one-more m) (one-more (run n held (suc m)) ∙ (let z : run n held (suc m) + 1 ≡ 1 + run n held (suc m) = omega arith in z))
+    by (suc n) h = let q : suc n - 1 ≡ n = omega arith in
+        rw (e, q, ← one-more m) (one-more (run n held (suc m)) ∙ (let z : run n held (suc m) + 1 ≡ 1 + run n held (suc m) = omega arith in
+        z))
 
 module _ (p : ℕ → Bool) (n : ℕ) (h : 0 < n) where
   pub every-step : p (n - 1) ≡ true → every n p ≡ every (n - 1) p
@@ -122,7 +124,8 @@ module _ (area : List ℕ) (b : Bytes area) (long : areaSize ≤ length area) (m
   held-block =
       let s = slotAt area (slotOf m) in
       let l : length (frame (first s)) ≡ 2 + stated s = length-frame (first s) ∙ ap (λ (n : ℕ). 2 + n) length-message in
-      sym (ap (take (2 + stated s)) (sym (framed-again s whole-there (bytes-drop (1472 * slotOf m) area b))) ∙ take-at (frame (first s)) (rest s) (2 + stated s) l)
+      sym (ap (take (2 + stated s)) (sym (framed-again s whole-there (bytes-drop (1472 * slotOf m) area b))) ∙ take-at (frame (first s))
+      (rest s) (2 + stated s) l)
 
 held-step : (n : ℕ) (area : List ℕ) (m : ℕ) → 0 < n → heldFrom n area m ≡ heldMessage area m ∷ heldFrom (n - 1) area (m + 1)
 unfolding heldFrom
@@ -132,7 +135,8 @@ held-step n area m h = by n h where
   by (suc n) h = let q : suc n - 1 ≡ n = omega arith in rw (q, ← one-more m)
 
 -- of n messages from m on, the first, and those behind it
-module _ (n : ℕ) (area : List ℕ) (b : Bytes area) (m : ℕ) (h : 0 < n) (long : areaSize ≤ length area) (room : stated (slotAt area (slotOf m)) ≤ longest) where
+module _ (n : ℕ) (area : List ℕ) (b : Bytes area) (m : ℕ) (h : 0 < n) (long : areaSize ≤ length area)
+    (room : stated (slotAt area (slotOf m)) ≤ longest) where
   abbrev size : ℕ
   size = 2 + stated (slotAt area (slotOf m))
 
@@ -144,12 +148,15 @@ module _ (n : ℕ) (area : List ℕ) (b : Bytes area) (m : ℕ) (h : 0 < n) (lon
   first-then = rw (held-step n area m h) (ap (λ (x : List ℕ). x ++ others) (held-block area b long m room))
 
   length-size : length (take size (slotAt area (slotOf m))) ≡ size
-  length-size = sym (ap length (held-block area b long m room)) ∙ length-frame (heldMessage area m) ∙ ap (λ (k : ℕ). 2 + k) (length-message area b long m room)
+  length-size = sym (ap length (held-block area b long m room)) ∙ length-frame (heldMessage area m) ∙ ap (λ (k : ℕ). 2 + k)
+      (length-message area b long m room)
 
   pub size-step : length (frames (heldFrom n area m)) ≡ size + length others
-  size-step = ap length first-then ∙ length-append (take size (slotAt area (slotOf m))) others ∙ ap (λ (k : ℕ). k + length others) length-size
+  size-step = ap length first-then ∙ length-append (take size (slotAt area (slotOf m))) others ∙ ap (λ (k : ℕ). k + length others)
+      length-size
 
-  pub lay-step : (out : List ℕ) (to : ℕ) → sets out to (frames (heldFrom n area m)) ≡ sets (sets out to (take size (slotAt area (slotOf m)))) (to + size) others
+  pub lay-step : (out : List ℕ) (to : ℕ) → sets out to (frames (heldFrom n area m)) ≡ sets
+      (sets out to (take size (slotAt area (slotOf m)))) (to + size) others
   lay-step out to =
       ap (sets out to) first-then ∙ sym (sets-append out to (take size (slotAt area (slotOf m))) others)
       ∙ ap (λ (k : ℕ). sets (sets out to (take size (slotAt area (slotOf m)))) (to + k) others) length-size

@@ -38,7 +38,8 @@ module _ (held next top : ℕ) where
   unfolding inPlace
   in-place-so p =
       every-so 32 (placed held next top)
-      (λ d h. or-free (full held (next + d)) (leb 1 d && leb (next + d) top) (λ f. let q = p d h f in rw (le-leb 1 d (q .0), le-leb (next + d) top (q .1))))
+      (λ d h. or-free (full held (next + d)) (leb 1 d && leb (next + d) top)
+      (λ f. let q = p d h f in rw (le-leb 1 d (q .0), le-leb (next + d) top (q .1))))
 
 -- a higher T does no harm
 pub in-place-higher : (held next top more : ℕ) → top ≤ more → inPlace held next top ≡ true → inPlace held next more ≡ true
@@ -59,7 +60,8 @@ module _ (held next top : ℕ) (e : inPlace held next top ≡ true) where
         none l = omega arith
 
   -- what is full after the slots from N on fell free stands for the same number as before
-  pub still-numbered : (n d : ℕ) → d < 32 → full (freedFrom n held next) (next + n + d) ≡ true → (n + d < 32) × (1 ≤ n + d) × (next + n + d ≤ top)
+  pub still-numbered : (n d : ℕ) → d < 32 → full (freedFrom n held next) (next + n + d) ≡ true → (n + d < 32) × (1 ≤ n + d)
+      × (next + n + d ≤ top)
   still-numbered n d h f =
       by-test (leb 32 (n + d))
       (λ q.
@@ -96,14 +98,16 @@ module _ (held : ℕ) (area : List ℕ) where
       let b = both (leb areaSize (length area)) (every 32 (fits held area)) e in
       record {
         enough = leb-true areaSize (length area) (b .0);
-        each = λ i h f. leb-true (stated (slotAt area i)) longest (if-full (isFull held i) (leb (stated (slotAt area i)) longest) (every-true 32 (fits held area) (b .1) i h) f);
+        each = λ i h f. leb-true (stated (slotAt area i)) longest
+            (if-full (isFull held i) (leb (stated (slotAt area i)) longest) (every-true 32 (fits held area) (b .1) i h) f);
       }
 
   pub fits-sound : Fits held area → sound held area ≡ true
   unfolding sound
   fits-sound p =
       rw (le-leb areaSize (length area) (p .enough))
-      (every-so 32 (fits held area) (λ i h. or-free (isFull held i) (leb (stated (slotAt area i)) longest) (λ f. le-leb (stated (slotAt area i)) longest (p .each i h f))))
+      (every-so 32 (fits held area) (λ i h. or-free (isFull held i) (leb (stated (slotAt area i)) longest)
+      (λ f. le-leb (stated (slotAt area i)) longest (p .each i h f))))
 
   -- the slot of a message
   pub fits-at : Fits held area → (m : ℕ) → full held m ≡ true → stated (slotAt area (slotOf m)) ≤ longest

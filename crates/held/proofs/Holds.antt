@@ -1,5 +1,5 @@
--- Holding messages that came early: a full slot keeps what it has, what is newly held is the packet's message of that number, and nothing is
--- held past N+31; the area stays sound and the bitmap in place.
+-- Holding messages that came early: a full slot keeps what it has, what is newly held is the packet's message of that number, and nothing
+-- is held past N+31; the area stays sound and the bitmap in place.
 -- Assumes nothing.
 use Prim.Native.Nat.{ℕ, suc, _+_, _-_, _*_, _≤_, _<_}
 use mathlib.Core.Path.{_≡_, refl, ap, sym, _∙_}
@@ -46,7 +46,13 @@ module _ (next : ℕ) (h : Holding) (m : ℕ) (message : List ℕ) where
       let q = both (a && b && c) d (p .0) in
       let r = both (a && b) c (q .0) in
       let s = both a b (r .0) in
-      record { past = leb-true _ _ (s .0); near = leb-true _ _ (s .1); free = not-true _ (r .1); short = leb-true _ _ (q .1); enough = leb-true _ _ (p .1) }
+      record {
+        past = leb-true _ _ (s .0);
+        near = leb-true _ _ (s .1);
+        free = not-true _ (r .1);
+        short = leb-true _ _ (q .1);
+        enough = leb-true _ _ (p .1);
+      }
 
   pub holds : Holds next h m message (holdOne next h m message)
   unfolding holdOne
@@ -122,28 +128,33 @@ module _ (next : ℕ) (h : Holding) (m : ℕ) (message : List ℕ) (r : Room nex
   lays-keeps = record {
     long = length-sets (h .area) (1472 * slotOf m) (frame message);
     full = λ n f. still-full (slotOf n) f;
-    same = λ p n f. other-first (h .area) (frame message) (slotOf m) (slotOf n) (apart (slotOf n) f) small (fits-at (h .held) (h .area) p n f);
+    same = λ p n f. other-first (h .area) (frame message) (slotOf m) (slotOf n) (apart (slotOf n) f) small
+        (fits-at (h .held) (h .area) p n f);
     fits = λ p. record { enough = rw (length-sets (h .area) (1472 * slotOf m) (frame message)) (r .enough); each = still-fits p };
   }
 
   lays-in-place : (top : ℕ) → inPlace (h .held) next top ≡ true → m ≤ top → inPlace (k .held) next top ≡ true
-  lays-in-place top e l = in-place-so (k .held) next top (λ d b f. by d b (either (full (h .held) (next + d)) (eqb (slotOf (next + d)) (slotOf m)) (sym (laid-full (slotOf (next + d))) ∙ f))) where
-    by : (d : ℕ) → d < 32 → (full (h .held) (next + d) ≡ true) ⊎ (eqb (slotOf (next + d)) (slotOf m) ≡ true) → (1 ≤ d) × (next + d ≤ top)
-    by d b (inl f) = in-place (h .held) next top e d b f
-    by d b (inr s) =
-        let q = eqb-true (slotOf (next + d)) (slotOf m) s in
-        let x : next + d ≡ m = one-number next d m b (r .past) (r .near) q in
-        let a = r .past in
-        (omega arith, omega arith) where
-          one-number : (next d m : ℕ) → d < 32 → next + 1 ≤ m → m ≤ next + 31 → slotOf (next + d) ≡ slotOf m → next + d ≡ m
-          one-number next d m b p n q = omega arith
+  lays-in-place top e l = in-place-so (k .held) next top
+      (λ d b f. by d b (either (full (h .held) (next + d)) (eqb (slotOf (next + d)) (slotOf m)) (sym (laid-full (slotOf (next + d))) ∙ f)))
+    where
+      by : (d : ℕ) → d < 32 → (full (h .held) (next + d) ≡ true) ⊎ (eqb (slotOf (next + d)) (slotOf m) ≡ true) → (1 ≤ d) × (next + d ≤ top)
+      by d b (inl f) = in-place (h .held) next top e d b f
+      by d b (inr s) =
+          let q = eqb-true (slotOf (next + d)) (slotOf m) s in
+          let x : next + d ≡ m = one-number next d m b (r .past) (r .near) q in
+          let a = r .past in
+          (omega arith, omega arith) where
+            one-number : (next d m : ℕ) → d < 32 → next + 1 ≤ m → m ≤ next + 31 → slotOf (next + d) ≡ slotOf m → next + d ≡ m
+            one-number next d m b p n q = omega arith
 
-  lays-new : (n : ℕ) → next + 1 ≤ n → n ≤ next + 31 → full (k .held) n ≡ true → (full (h .held) n ≡ true) ⊎ ((n ≡ m) × (heldMessage (k .area) n ≡ message))
+  lays-new : (n : ℕ) → next + 1 ≤ n → n ≤ next + 31 → full (k .held) n ≡ true → (full (h .held) n ≡ true)
+      ⊎ ((n ≡ m) × (heldMessage (k .area) n ≡ message))
   lays-new n a b f = by (either (full (h .held) n) (eqb (slotOf n) (slotOf m)) (sym (laid-full (slotOf n)) ∙ f)) where
     one-number : (next n m : ℕ) → next + 1 ≤ n → n ≤ next + 31 → next + 1 ≤ m → m ≤ next + 31 → slotOf n ≡ slotOf m → n ≡ m
     one-number next n m p q s t e = omega arith
 
-    by : (full (h .held) n ≡ true) ⊎ (eqb (slotOf n) (slotOf m) ≡ true) → (full (h .held) n ≡ true) ⊎ ((n ≡ m) × (heldMessage (laid h m message .area) n ≡ message))
+    by : (full (h .held) n ≡ true) ⊎ (eqb (slotOf n) (slotOf m) ≡ true) → (full (h .held) n ≡ true)
+        ⊎ ((n ≡ m) × (heldMessage (laid h m message .area) n ≡ message))
     by (inl f) = inl f
     by (inr s) =
         let e = one-number next n m a b (r .past) (r .near) (eqb-true (slotOf n) (slotOf m) s) in
@@ -166,7 +177,8 @@ module _ (next : ℕ) where
     one-new : (n : ℕ) → next + 1 ≤ n → n ≤ next + 31 → full (holdOne next h m message .held) n ≡ true
         → (full (h .held) n ≡ true) ⊎ ((n ≡ m) × (heldMessage (holdOne next h m message .area) n ≡ message))
     one-new n a b = by (holdOne next h m message) (holds next h m message) where
-      by : (k : Holding) → Holds next h m message k → full (k .held) n ≡ true → (full (h .held) n ≡ true) ⊎ ((n ≡ m) × (heldMessage (k .area) n ≡ message))
+      by : (k : Holding) → Holds next h m message k → full (k .held) n ≡ true → (full (h .held) n ≡ true)
+          ⊎ ((n ≡ m) × (heldMessage (k .area) n ≡ message))
       by _ (lays r) f = lays-new next h m message r n a b f
       by _ (keeps _) f = inl f
 
@@ -178,20 +190,23 @@ module _ (next : ℕ) where
       let k = holdOne next h m x in
       keeps-on h k (holdAll next k (suc m) ms) (one-keeps h m x) (all-keeps k (suc m) ms)
 
-  pub all-sound : (h : Holding) (m : ℕ) (ms : List (List ℕ)) → sound (h .held) (h .area) ≡ true → sound (holdAll next h m ms .held) (holdAll next h m ms .area) ≡ true
+  pub all-sound : (h : Holding) (m : ℕ) (ms : List (List ℕ)) → sound (h .held) (h .area) ≡ true
+      → sound (holdAll next h m ms .held) (holdAll next h m ms .area) ≡ true
   all-sound h m ms e =
       let k = holdAll next h m ms in
       fits-sound (k .held) (k .area) (all-keeps h m ms .fits (sound-fits (h .held) (h .area) e))
 
   -- the bitmap stays in place, where the last of the messages is not above T
-  pub all-in-place : (h : Holding) (m : ℕ) (ms : List (List ℕ)) (top : ℕ) → inPlace (h .held) next top ≡ true → m + length ms ≤ top + 1 → inPlace (holdAll next h m ms .held) next top ≡ true
+  pub all-in-place : (h : Holding) (m : ℕ) (ms : List (List ℕ)) (top : ℕ) → inPlace (h .held) next top ≡ true → m + length ms ≤ top + 1
+      → inPlace (holdAll next h m ms .held) next top ≡ true
   unfolding holdAll
   all-in-place h m [] top e l = e
   all-in-place h m (x ∷ ms) top e l =
       all-in-place (holdOne next h m x) (suc m) ms top (one-in-place h m x top e (omega arith)) (omega arith)
 
   -- what is newly held as number n is the packet's message of that number
-  pub all-new : (h : Holding) (m : ℕ) (ms : List (List ℕ)) → Fits (h .held) (h .area) → (n : ℕ) → next + 1 ≤ n → n ≤ next + 31 → full (holdAll next h m ms .held) n ≡ true
+  pub all-new : (h : Holding) (m : ℕ) (ms : List (List ℕ)) → Fits (h .held) (h .area) → (n : ℕ) → next + 1 ≤ n → n ≤ next + 31
+      → full (holdAll next h m ms .held) n ≡ true
       → (full (h .held) n ≡ true) ⊎ ((m ≤ n) × (n < m + length ms) × (heldMessage (holdAll next h m ms .area) n ≡ getD ms (n - m) []))
   unfolding holdAll
   all-new h m [] p n a b f = inl f
@@ -202,10 +217,15 @@ module _ (next : ℕ) where
     l : Holding
     l = holdAll next k (suc m) ms
 
-    at-first : n ≡ m → heldMessage (k .area) n ≡ x → full (k .held) n ≡ true → (m ≤ n) × (n < m + suc (length ms)) × (heldMessage (l .area) n ≡ getD (x ∷ ms) (n - m) [])
+    at-first : n ≡ m → heldMessage (k .area) n ≡ x → full (k .held) n ≡ true → (m ≤ n) × (n < m + suc (length ms))
+        × (heldMessage (l .area) n ≡ getD (x ∷ ms) (n - m) [])
     at-first e q g =
-        let z : n - m ≡ 0 = omega arith in
-        (omega arith, omega arith, all-keeps k (suc m) ms .same (one-keeps h m x .fits p) n g ∙ q ∙ ap (λ (i : ℕ). getD (x ∷ ms) i []) (sym z))
+        let z : n - m ≡ 0 = omega arith in (
+          omega arith,
+          omega arith,
+          all-keeps k (suc m) ms .same (one-keeps h m x .fits p) n g ∙ q ∙ ap (λ (i : ℕ). getD (x ∷ ms) i [])
+              (sym z),
+        )
 
     here : full (k .held) n ≡ true → (full (h .held) n ≡ true) ⊎ ((n ≡ m) × (heldMessage (k .area) n ≡ x))
         → (full (h .held) n ≡ true) ⊎ ((m ≤ n) × (n < m + suc (length ms)) × (heldMessage (l .area) n ≡ getD (x ∷ ms) (n - m) []))
@@ -228,7 +248,8 @@ module _ (next : ℕ) where
   all-past h m (x ∷ ms) l = rw (past-thrown next h m x l) (all-past h (suc m) ms (omega arith))
 
   -- there was no slot for a message, or there is none once it is held
-  none-stays : (h k : Holding) (m : ℕ) (message : List ℕ) → Keeps h k → holdable next h m message ≡ false → holdable next k m message ≡ false
+  none-stays : (h k : Holding) (m : ℕ) (message : List ℕ) → Keeps h k → holdable next h m message ≡ false
+      → holdable next k m message ≡ false
   none-stays h k m message p e =
       by-test (full (k .held) m)
       (λ f. rw (f, and-false (leb (next + 1) m && leb m (next + 31))))
@@ -241,7 +262,8 @@ module _ (next : ℕ) where
     by : (k : Holding) → Holds next h m message k → holdable next k m message ≡ false
     by _ (lays r) =
         let f : full (laid h m message .held) m ≡ true =
-        full-filled (h .held) (slotOf m) (slotOf m) ∙ ap (λ (b : Bool). full (h .held) m || b) (eq-eqb (slotOf m) (slotOf m) refl) ∙ or-true (full (h .held) m) in
+        full-filled (h .held) (slotOf m) (slotOf m) ∙ ap (λ (b : Bool). full (h .held) m || b) (eq-eqb (slotOf m) (slotOf m) refl)
+        ∙ or-true (full (h .held) m) in
         rw (f, and-false (leb (next + 1) m && leb m (next + 31)))
     by _ (keeps e) = e
 

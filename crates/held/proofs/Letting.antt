@@ -22,20 +22,25 @@ module _ (held : ℕ) (area : List ℕ) (m at : ℕ) (out : List ℕ) where
 
   -- no room even for what stands before
   pub no-room : sound held area ≡ true → length out < at → Settled (releasing held area m at (length out)) at out (gives.Refused 9) out
-  no-room e h = rw (e, lt-leb (at + length (frames (released held area m))) (length out) (omega arith)) (record { answer = refl; bytes = refl })
+  no-room e h = rw (e, lt-leb (at + length (frames (released held area m))) (length out) (omega arith))
+      (record { answer = refl; bytes = refl })
 
   -- nothing is held
-  pub nothing-goes : sound held area ≡ true → held ≡ 0 → at ≤ length out → Settled (releasing held area m at (length out)) at out (gives.Messages 0 0) out
+  pub nothing-goes : sound held area ≡ true → held ≡ 0 → at ≤ length out → Settled (releasing held area m at (length out)) at out
+      (gives.Messages 0 0) out
   unfolding frames
   nothing-goes e z h =
       let none : released held area m ≡ [] = released-none held area m (rw z (none-full (slotOf m))) in
       rw (e, none, le-leb (at + 0) (length out) (omega arith)) (record { answer = refl; bytes = refl })
 
   module _ (e : sound held area ≡ true) (k : ℕ) (q : k ≡ run 31 held m) where
-    pub too-little : length out < at + length (frames (heldFrom k area m)) → Settled (releasing held area m at (length out)) at out (gives.Refused 9) out
-    too-little h = rw (e, lt-leb (at + length (frames (released held area m))) (length out) (rw q at h)) (record { answer = refl; bytes = refl })
+    pub too-little : length out < at + length (frames (heldFrom k area m)) → Settled (releasing held area m at (length out)) at out
+        (gives.Refused 9) out
+    too-little h = rw (e, lt-leb (at + length (frames (released held area m))) (length out) (rw q at h))
+        (record { answer = refl; bytes = refl })
 
-    pub lets-go : (bytes : ℕ) (left : List ℕ) → bytes ≡ length (frames (heldFrom k area m)) → at + bytes ≤ length out → left ≡ sets out at (frames (heldFrom k area m))
+    pub lets-go : (bytes : ℕ) (left : List ℕ) → bytes ≡ length (frames (heldFrom k area m)) → at + bytes ≤ length out
+        → left ≡ sets out at (frames (heldFrom k area m))
         → Settled (releasing held area m at (length out)) at out (gives.Messages k bytes) left
     lets-go bytes left b h l =
         rw (e, le-leb (at + length (frames (released held area m))) (length out) (rw (b, q) at h), b, l, q)

@@ -27,13 +27,15 @@ run-within (suc n) held m =
 pub run-full : (n held m j : ℕ) → j < run n held m → full held (m + j) ≡ true
 unfolding run
 run-full zero held m j h = absurd (omega arith)
-run-full (suc n) held m j h = by-test (full held m) (λ e. by j e (rw e at h) (run-full n held (suc m))) (λ e. absurd (none (rw e at h))) where
-  none : j < 0 → ⊥
-  none l = omega arith
+run-full (suc n) held m j h = by-test (full held m) (λ e. by j e (rw e at h) (run-full n held (suc m))) (λ e. absurd (none (rw e at h)))
+  where
+    none : j < 0 → ⊥
+    none l = omega arith
 
-  by : (j : ℕ) → full held m ≡ true → j < suc (run n held (suc m)) → ((j : ℕ) → j < run n held (suc m) → full held (suc m + j) ≡ true) → full held (m + j) ≡ true
-  by zero e l more = let y : m + 0 ≡ m = omega arith in rw y e
-  by (suc j) e l more = let t : m + suc j ≡ suc m + j = omega arith in rw t (more j (omega arith))
+    by : (j : ℕ) → full held m ≡ true → j < suc (run n held (suc m)) → ((j : ℕ) → j < run n held (suc m) → full held (suc m + j) ≡ true)
+        → full held (m + j) ≡ true
+    by zero e l more = let y : m + 0 ≡ m = omega arith in rw y e
+    by (suc j) e l more = let t : m + suc j ≡ suc m + j = omega arith in rw t (more j (omega arith))
 
 pub run-stops : (n held m : ℕ) → run n held m < n → full held (m + run n held m) ≡ false
 unfolding run
@@ -70,7 +72,8 @@ first-short s = omega (arith, length-take (stated s) (drop 2 s))
 
 -- so many messages, each in a slot that it fits, take at most so many slots of bytes
 module _ (area : List ℕ) where
-  pub held-lean : (k m : ℕ) → ((j : ℕ) → j < k → stated (slotAt area (slotOf (m + j))) ≤ longest) → length (frames (heldFrom k area m)) ≤ 1472 * k
+  pub held-lean : (k m : ℕ) → ((j : ℕ) → j < k → stated (slotAt area (slotOf (m + j))) ≤ longest)
+      → length (frames (heldFrom k area m)) ≤ 1472 * k
   unfolding heldFrom
   held-lean zero m f = omega (arith, frames-none)
   held-lean (suc k) m f =

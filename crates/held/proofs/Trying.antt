@@ -33,13 +33,28 @@ module _ (next held m : ℕ) (area message : List ℕ) where
       module _ (c : full held m ≡ false) where
         pub too-long : longest < length message → Leaves held area
         unfolding holdOne
-        too-long d = rw (le-leb (next + 1) m (omega arith), le-leb m (next + 31) (omega arith), c, lt-leb (length message) longest d) (record { bitmap = refl; bytes = refl })
+        too-long d = rw (le-leb (next + 1) m (omega arith), le-leb m (next + 31) (omega arith), c, lt-leb (length message) longest d)
+            (record { bitmap = refl; bytes = refl })
 
         module _ (d : length message ≤ longest) where
           pub no-slots : length area < areaSize → Leaves held area
           unfolding holdOne
-          no-slots e = rw (le-leb (next + 1) m (omega arith), le-leb m (next + 31) (omega arith), c, le-leb (length message) longest d, lt-leb areaSize (length area) e) (record { bitmap = refl; bytes = refl })
+          no-slots e = rw (
+            le-leb (next + 1) m (omega arith),
+            le-leb m (next + 31) (omega arith),
+            c,
+            le-leb (length message) longest
+                d,
+            lt-leb areaSize (length area) e,
+          ) (record { bitmap = refl; bytes = refl })
 
           pub lies-there : areaSize ≤ length area → Leaves (filled held (slotOf m)) (sets area (1472 * slotOf m) (frame message))
           unfolding holdOne
-          lies-there e = rw (le-leb (next + 1) m (omega arith), le-leb m (next + 31) (omega arith), c, le-leb (length message) longest d, le-leb areaSize (length area) e) (record { bitmap = refl; bytes = refl })
+          lies-there e = rw (
+            le-leb (next + 1) m (omega arith),
+            le-leb m (next + 31) (omega arith),
+            c,
+            le-leb (length message) longest
+                d,
+            le-leb areaSize (length area) e,
+          ) (record { bitmap = refl; bytes = refl })

@@ -92,13 +92,16 @@ hp-next-block-is κs a x y s t = same-answer
 hp-soup-write-is : Determined 2 hp-soup-write.ps hp-soup-write.r (List ℕ) (λ κs s. now (s .1 .1 .0)) hp-soup-write-reads.Post
 hp-soup-write-is κs a x y s t = same-flat-reply
 
-hp-ufo-write-down-is : Determined 2 hp-ufo-write-down.ps hp-ufo-write-down.r (List ℕ) (λ κs s. now (s .1 .1 .0)) hp-ufo-write-down-reads.Post
+hp-ufo-write-down-is : Determined 2 hp-ufo-write-down.ps hp-ufo-write-down.r (List ℕ) (λ κs s. now (s .1 .1 .0))
+    hp-ufo-write-down-reads.Post
 hp-ufo-write-down-is κs a x y s t = same-flat-reply
 
-hp-ufo-write-message-is : Determined 2 hp-ufo-write-message.ps hp-ufo-write-message.r (List ℕ) (λ κs s. now (s .1 .1 .0)) hp-ufo-write-message-reads.Post
+hp-ufo-write-message-is : Determined 2 hp-ufo-write-message.ps hp-ufo-write-message.r (List ℕ) (λ κs s. now (s .1 .1 .0))
+    hp-ufo-write-message-reads.Post
 hp-ufo-write-message-is κs a x y s t = same-flat-reply
 
-hp-ufo-add-message-is : Determined 2 hp-ufo-add-message.ps hp-ufo-add-message.r (List ℕ) (λ κs s. now (s .1 .1 .0)) hp-ufo-add-message-reads.Post
+hp-ufo-add-message-is : Determined 2 hp-ufo-add-message.ps hp-ufo-add-message.r (List ℕ) (λ κs s. now (s .1 .1 .0))
+    hp-ufo-add-message-reads.Post
 hp-ufo-add-message-is κs a x y s t = same-flat-reply
 
 hp-memx-write-is : Determined 3 hp-memx-write.ps hp-memx-write.r (List ℕ) (λ κs s. now (s .1 .1 .1 .0)) hp-memx-write-reads.Post
@@ -155,5 +158,6 @@ hp-log-answer-is κs a x y s t = same-flat-reply
 hp-log-heartbeat-is : Determined 2 hp-log-heartbeat.ps hp-log-heartbeat.r (List ℕ) (λ κs s. now (s .1 .1 .0)) hp-log-heartbeat-reads.Post
 hp-log-heartbeat-is κs a x y s t = same-flat-reply
 
-hp-log-end-packet-is : Determined 2 hp-log-end-packet.ps hp-log-end-packet.r (List ℕ) (λ κs s. now (s .1 .1 .0)) hp-log-end-packet-reads.Post
+hp-log-end-packet-is : Determined 2 hp-log-end-packet.ps hp-log-end-packet.r (List ℕ) (λ κs s. now (s .1 .1 .0))
+    hp-log-end-packet-reads.Post
 hp-log-end-packet-is κs a x y s t = same-flat-reply

@@ -27,7 +27,8 @@ pub extern "C" fn hp_ufo_write_down(fields: Packet, body: &[u8], out: &mut [u8])
 
 #[no_mangle]
 pub extern "C" fn hp_ufo_write_message(fields: Packet, body: &[u8], out: &mut [u8]) -> Wrote
-    ensures { λ r. ⌜ FlatSettled (messageReply fields (now (body .entry)) (length (now (out .entry)))) (now (out .entry)) r (now (out .exit)) ⌝ }
+    ensures { λ r. ⌜ FlatSettled (messageReply fields (now (body .entry)) (length (now (out .entry)))) (now (out .entry)) r
+        (now (out .exit)) ⌝ }
 {
     flat_ufo_up::write_message(fields, body, out)
 }
@@ -46,7 +47,8 @@ pub extern "C" fn hp_ufo_add_message(
 
 #[no_mangle]
 pub extern "C" fn hp_memx_write(fields: Packet, extra: &[u8], body: &[u8], out: &mut [u8]) -> Wrote
-    ensures { λ r. ⌜ FlatSettled (memxReply fields (now (extra .entry)) (now (body .entry)) (length (now (out .entry)))) (now (out .entry)) r (now (out .exit)) ⌝ }
+    ensures { λ r. ⌜ FlatSettled (memxReply fields (now (extra .entry)) (now (body .entry)) (length (now (out .entry)))) (now (out .entry))
+        r (now (out .exit)) ⌝ }
 {
     flat_memx::write(fields, extra, body, out)
 }

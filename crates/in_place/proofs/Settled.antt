@@ -18,10 +18,14 @@ use Rattle.in_place.proofs.ask_lent as ask-lent
 module _ {M : Type 1} (𝓤 : URA M) (H : Heap 𝓤) (A : Atoms 𝓤) (mem : Memory → SProp 𝓤) (run : Routine → Fun 𝓤) where
   take-lent-is : Determines 𝓤 take-lent.ended (take-lent.clauses 𝓤 H A mem run)
   take-lent-is κs a g x y s t p q =
-      by-facts 𝓤 p q (taken.the-row .coded) (coded× (kept.the-row .coded) (coded× (codedList codedℕ) (coded× codedUnit (coded× (codedList codedℕ) codedUnit))))
-      (λ h k. same-both (h .answered .answer) (k .answered .answer) (λ i. (h .stored i, (h .answered .slots i, (tt, (h .answered .bytes i, tt))))) (λ i. (k .stored i, (k .answered .slots i, (tt, (k .answered .bytes i, tt))))))
+      by-facts 𝓤 p q (taken.the-row .coded)
+      (coded× (kept.the-row .coded) (coded× (codedList codedℕ) (coded× codedUnit (coded× (codedList codedℕ) codedUnit))))
+      (λ h k. same-both (h .answered .answer) (k .answered .answer)
+      (λ i. (h .stored i, (h .answered .slots i, (tt, (h .answered .bytes i, tt)))))
+      (λ i. (k .stored i, (k .answered .slots i, (tt, (k .answered .bytes i, tt))))))
 
   ask-lent-is : Determines 𝓤 ask-lent.ended (ask-lent.clauses 𝓤 H A mem run)
   ask-lent-is κs a g x y s t p q =
-      by-facts 𝓤 p q (asked.the-row .coded) (coded× (kept.the-row .coded) (coded× codedUnit (coded× codedUnit (coded× codedUnit codedUnit))))
+      by-facts 𝓤 p q (asked.the-row .coded)
+      (coded× (kept.the-row .coded) (coded× codedUnit (coded× codedUnit (coded× codedUnit codedUnit))))
       (λ h k. same-both (h .answer) (k .answer) (λ i. (h .stored i, (tt, (tt, (tt, tt))))) (λ i. (k .stored i, (tt, (tt, (tt, tt))))))

@@ -1,5 +1,6 @@
--- Two rules for a walk by hand, which name neither the locals nor the code: where the first part of a sequence ends the rest runs, and at the return the locals are freed, whatever they hold.
--- `types.Run`'s `exec`, with the locals and the code written out, has antt compare the two ways to spell each type, again and again: three seconds of a walk.
+-- Two rules for a walk by hand, which name neither the locals nor the code: where the first part of a sequence ends the rest runs, and at
+-- the return the locals are freed, whatever they hold. `types.Run`'s `exec`, with the locals and the code written out, has antt compare the
+-- two ways to spell each type, again and again: three seconds of a walk.
 -- Assumes nothing.
 use Prim.Native.Nat.{ℕ, zero, suc}
 use mathlib.Core.Path.{_≡_, subst}
@@ -53,7 +54,8 @@ module _ {M : Type 1} (𝓤 : URA M) (H : Heap 𝓤) (A : Atoms 𝓤) where
   parted (suc n) (i ∷ Γ) =
       via 𝓤 (mean 𝓤 H A i ∗ ⋆ 𝓤 H A Γ) (pop 𝓤 H A i Γ)
       (via 𝓤 (mean 𝓤 H A i ∗ (⋆ 𝓤 H A (before n Γ) ∗ ⋆ 𝓤 H A (after n Γ))) (monoR 𝓤 (mean 𝓤 H A i) (parted n Γ))
-      (via 𝓤 ((mean 𝓤 H A i ∗ ⋆ 𝓤 H A (before n Γ)) ∗ ⋆ 𝓤 H A (after n Γ)) (assoc′ 𝓤 (mean 𝓤 H A i) (⋆ 𝓤 H A (before n Γ)) (⋆ 𝓤 H A (after n Γ)))
+      (via 𝓤 ((mean 𝓤 H A i ∗ ⋆ 𝓤 H A (before n Γ)) ∗ ⋆ 𝓤 H A (after n Γ))
+      (assoc′ 𝓤 (mean 𝓤 H A i) (⋆ 𝓤 H A (before n Γ)) (⋆ 𝓤 H A (after n Γ)))
       (monoL 𝓤 (⋆ 𝓤 H A (after n Γ)) (push 𝓤 H A i (before n Γ)))))
 
   swapped : (P Q R : SProp 𝓤) → ent 𝓤 (P ∗ Q ∗ R) (Q ∗ P ∗ R)
@@ -72,29 +74,37 @@ module _ {M : Type 1} (𝓤 : URA M) (H : Heap 𝓤) (A : Atoms 𝓤) where
     emptied τ b (none ∷ us) = id⊢ 𝓤 (H .room τ b zero)
     emptied τ b (some u ∷ us) = W .laws .at-room τ b zero u
 
-    freed : (E : Env 𝓤 H) (us : List (Option Val)) (Γ : List (Item 𝓤)) (Q P : SProp 𝓤) → ent 𝓤 (Q ∗ ⋆ 𝓤 H A Γ) P → ent 𝓤 (Q ∗ ⋆ 𝓤 H A (lying E us Γ)) (release 𝓤 H E P)
+    freed : (E : Env 𝓤 H) (us : List (Option Val)) (Γ : List (Item 𝓤)) (Q P : SProp 𝓤) → ent 𝓤 (Q ∗ ⋆ 𝓤 H A Γ) P
+        → ent 𝓤 (Q ∗ ⋆ 𝓤 H A (lying E us Γ)) (release 𝓤 H E P)
     freed [] us Γ Q P h = h
     freed ((τ, b) ∷ E) us Γ Q P h =
         via 𝓤 (release 𝓤 H E ((H .room τ b zero ∗ H .dies τ b) ∗ P))
         (freed E (others us) (‵ (holds τ b us) ∷ ‵ (fdies τ b) ∷ Γ) Q ((H .room τ b zero ∗ H .dies τ b) ∗ P)
-        (via 𝓤 (Q ∗ (sem 𝓤 H A (holds τ b us) ∗ (H .dies τ b ∗ ⋆ 𝓤 H A Γ))) (monoR 𝓤 Q (monoR 𝓤 (sem 𝓤 H A (holds τ b us)) (pop 𝓤 H A (‵ (fdies τ b)) Γ)))
-        (via 𝓤 (Q ∗ ((sem 𝓤 H A (holds τ b us) ∗ H .dies τ b) ∗ ⋆ 𝓤 H A Γ)) (monoR 𝓤 Q (assoc′ 𝓤 (sem 𝓤 H A (holds τ b us)) (H .dies τ b) (⋆ 𝓤 H A Γ)))
+        (via 𝓤 (Q ∗ (sem 𝓤 H A (holds τ b us) ∗ (H .dies τ b ∗ ⋆ 𝓤 H A Γ)))
+        (monoR 𝓤 Q (monoR 𝓤 (sem 𝓤 H A (holds τ b us)) (pop 𝓤 H A (‵ (fdies τ b)) Γ)))
+        (via 𝓤 (Q ∗ ((sem 𝓤 H A (holds τ b us) ∗ H .dies τ b) ∗ ⋆ 𝓤 H A Γ))
+        (monoR 𝓤 Q (assoc′ 𝓤 (sem 𝓤 H A (holds τ b us)) (H .dies τ b) (⋆ 𝓤 H A Γ)))
         (via 𝓤 ((sem 𝓤 H A (holds τ b us) ∗ H .dies τ b) ∗ (Q ∗ ⋆ 𝓤 H A Γ)) (swapped Q (sem 𝓤 H A (holds τ b us) ∗ H .dies τ b) (⋆ 𝓤 H A Γ))
         (mono∗ 𝓤 (monoL 𝓤 (H .dies τ b) (emptied τ b us)) h)))))
         (aside E (H .room τ b zero ∗ H .dies τ b) P)
 
-    left : (E : Env 𝓤 H) (us : List (Option Val)) (n : ℕ) (Γ : List (Item 𝓤)) (P : SProp 𝓤) → lying E us [] ≡ after n Γ → ent 𝓤 (⋆ 𝓤 H A (before n Γ)) P → ent 𝓤 (⋆ 𝓤 H A Γ) (release 𝓤 H E P)
+    left : (E : Env 𝓤 H) (us : List (Option Val)) (n : ℕ) (Γ : List (Item 𝓤)) (P : SProp 𝓤) → lying E us [] ≡ after n Γ
+        → ent 𝓤 (⋆ 𝓤 H A (before n Γ)) P → ent 𝓤 (⋆ 𝓤 H A Γ) (release 𝓤 H E P)
     left E us n Γ P e h =
         via 𝓤 (⋆ 𝓤 H A (before n Γ) ∗ ⋆ 𝓤 H A (after n Γ)) (parted n Γ)
         (subst (λ (Δ : List (Item 𝓤)). ent 𝓤 (⋆ 𝓤 H A (before n Γ) ∗ ⋆ 𝓤 H A Δ) (release 𝓤 H E P)) e
         (freed E us [] (⋆ 𝓤 H A (before n Γ)) P (via 𝓤 (⋆ 𝓤 H A (before n Γ)) (fst∗ 𝓤 (⋆ 𝓤 H A (before n Γ)) (emp 𝓤)) h)))
 
-module _ {M : Type 1} {𝓤 : URA M} {H : Heap 𝓤} {A : Atoms 𝓤} {K : Type 0} {W : Given 𝓤 H A} {Γ : List (Item 𝓤)} {P : SProp 𝓤} {E : Env 𝓤 H} where
-  -- after the first n entries stand the locals, which hold us: they are freed
-  pub leaves : K → (n : ℕ) (us : List (Option Val)) → lying 𝓤 H A E us [] ≡ after 𝓤 H A n Γ → Step K W (before 𝓤 H A n Γ) (prop P) Γ (frees E (prop P))
-  leaves t n us e = step (λ s. record { prf = left 𝓤 H A W E us n Γ P e (s .prf) })
+module _ {M : Type 1} {𝓤 : URA M} {H : Heap 𝓤} {A : Atoms 𝓤} {K : Type 0} {W : Given 𝓤 H A} {Γ : List (Item 𝓤)} {P : SProp 𝓤} {E : Env 𝓤 H}
+  where
+    -- after the first n entries stand the locals, which hold us: they are freed
+    pub leaves : K → (n : ℕ) (us : List (Option Val)) → lying 𝓤 H A E us [] ≡ after 𝓤 H A n Γ
+        → Step K W (before 𝓤 H A n Γ) (prop P) Γ (frees E (prop P))
+    leaves t n us e = step (λ s. record { prf = left 𝓤 H A W E us n Γ P e (s .prf) })
 
-module _ {M : Type 1} {𝓤 : URA M} {H : Heap 𝓤} {A : Atoms 𝓤} {K : Type 0} {W : Given 𝓤 H A} {Γ : List (Item 𝓤)} {C : Calls 𝓤 H} {Λ : Loops 𝓤 H} {E : Env 𝓤 H} {q : Post 𝓤 H} where
+module _ {M : Type 1} {𝓤 : URA M} {H : Heap 𝓤} {A : Atoms 𝓤} {K : Type 0} {W : Given 𝓤 H A} {Γ : List (Item 𝓤)} {C : Calls 𝓤 H}
+    {Λ : Loops 𝓤 H} {E : Env 𝓤 H} {q : Post 𝓤 H} where
   -- into the first part of a sequence; where that part ends, what the script is given goes on with the rest
-  pub within : K → {a b : Body} → (((Δ : List (Item 𝓤)) → Step K W Δ (runs C Λ E b q) Δ (prop (Wp 𝓤 H C Λ E b (post 𝓤 H q)))) → Seq K W Γ (runs C Λ E a (anyQ (afterSeq 𝓤 H (Wp 𝓤 H C Λ E b (post 𝓤 H q)) (post 𝓤 H q))))) → Seq K W Γ (runs C Λ E (seq a b) q)
+  pub within : K → {a b : Body} → (((Δ : List (Item 𝓤)) → Step K W Δ (runs C Λ E b q) Δ (prop (Wp 𝓤 H C Λ E b (post 𝓤 H q))))
+      → Seq K W Γ (runs C Λ E a (anyQ (afterSeq 𝓤 H (Wp 𝓤 H C Λ E b (post 𝓤 H q)) (post 𝓤 H q))))) → Seq K W Γ (runs C Λ E (seq a b) q)
   within t {a} {b} k = first t $ k (λ Δ. exec t C Λ E b q)

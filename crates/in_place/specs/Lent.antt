@@ -22,7 +22,8 @@ onceAsked kept (taken wait) = kept
 onceAsked kept (taken (request first count after)) = after
 
 -- the answer r, the area and the bytes left and the record that lies there are those of the verdict
-pub record TakenLent (verdict : Verdict Taking) (kept : Record) (area out : List ℕ) (r : Taken) (areaLeft left : List ℕ) (lies : Record) : Type 0 where
+pub record TakenLent (verdict : Verdict Taking) (kept : Record) (area out : List ℕ) (r : Taken) (areaLeft left : List ℕ)
+    (lies : Record) : Type 0 where
   pub answered : Answered verdict area out r areaLeft left
   pub stored : lies ≡ onceTaken kept verdict
 

@@ -13,7 +13,8 @@ ghost use Rattle.in_place.specs.Lent.{TakenLent, AskedLent};
 
 // The same answers as `take`.
 pub fn take_lent(kept: &mut Record, area: &mut [u8], datagram: &[u8], out: &mut [u8]) -> Taken
-    ensures { λ r. ⌜ TakenLent (taking (now (kept .entry)) (now (area .entry)) (now (datagram .entry)) (length (now (out .entry)))) (now (kept .entry)) (now (area .entry)) (now (out .entry)) r (now (area .exit)) (now (out .exit)) (now (kept .exit)) ⌝ }
+    ensures { λ r. ⌜ TakenLent (taking (now (kept .entry)) (now (area .entry)) (now (datagram .entry)) (length (now (out .entry))))
+        (now (kept .entry)) (now (area .entry)) (now (out .entry)) r (now (area .exit)) (now (out .exit)) (now (kept .exit)) ⌝ }
 {
     let was = *kept;
     let taken = take(was, area, datagram, out);

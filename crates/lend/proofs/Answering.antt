@@ -97,7 +97,8 @@ module _ (ms : List (List ℕ)) (f : ℕ) (h : 0 < f) (g : f ≤ length ms) wher
       }
 
   -- an answer carries these messages, one at least
-  pub answer-carries : (ended : Bool) (c : ℕ) → 0 < c → small ms ≡ true → let n = greatest (goes ms f) c in (answerTo ended ms f c ≡ messages f (take n (drop (f - 1) ms))) × (0 < n) × Most ms f c n
+  pub answer-carries : (ended : Bool) (c : ℕ) → 0 < c → small ms ≡ true → let n = greatest (goes ms f) c in
+      (answerTo ended ms f c ≡ messages f (take n (drop (f - 1) ms))) × (0 < n) × Most ms f c n
   unfolding answerTo
   answer-carries ended c i z =
       (rw (le-leb f (length ms) g), greatest-above (goes ms f) c 1 i (one-goes z), most c)
@@ -115,7 +116,12 @@ module _ (ms : List (List ℕ)) (n : length ms ≤ 2 ^ 32 - 2) where
   from-fits f c b h k =
       let m = most ms f h k c in
       let j = greatest (goes ms f) c in
-      record { some = h; bound = omega (arith, m .many, m .there); bytes = each-take Bytes j (drop (f - 1) ms) (each-drop Bytes (f - 1) ms b); size = m .size }
+      record {
+        some = h;
+        bound = omega (arith, m .many, m .there);
+        bytes = each-take Bytes j (drop (f - 1) ms) (each-drop Bytes (f - 1) ms b);
+        size = m .size;
+      }
 
   pub answer-fits : (ended : Bool) (f c : ℕ) → Each Bytes ms → 0 < f → Fit (answerTo ended ms f c)
   unfolding answerTo

@@ -35,7 +35,8 @@ module _ (l : Log) (s : List ℕ) (room : ℕ) (d : List ℕ) where
   answered f c b e =
       let p = answerTo (l .ended) held f c in
       let q = all-passed (answerable l s f c room) (taken (write p)) d e in
-      gives d p (taken-same (write p) d (q .1)) (answer-fits held (few-in l s (q .0 .0)) (l .ended) f c (bytes-in l s b (q .0 .0)) (nonzero f (q .0 .1 .0)))
+      gives d p (taken-same (write p) d (q .1))
+      (answer-fits held (few-in l s (q .0 .0)) (l .ended) f c (bytes-in l s b (q .0 .0)) (nonzero f (q .0 .1 .0)))
 
   pub beaten : heartbeatReply l s room ≡ taken d → Gives d (heartbeatOf held)
   unfolding heartbeatReply

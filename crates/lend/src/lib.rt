@@ -53,7 +53,8 @@ fn measure(s: &[u8], at: usize, count: u16) -> Run
 // Sends messages that the log has, from a number on: as many as one packet can carry.
 fn send(log: Log, bytes: &[u8], first: Sequence, count: u16, out: &mut [u8]) -> Written
     requires { ⌜ (hangs log (now bytes) ≡ true) × (0 < first .0) × (first .0 ≤ log .count) × (limit ≤ length (now out)) ⌝ }
-    ensures { λ r. ⌜ Settled (taken (write (packed (messagesIn log (now (bytes .entry))) (first .0) count))) (now (out .entry)) r (now (out .exit)) ⌝ }
+    ensures { λ r. ⌜ Settled (taken (write (packed (messagesIn log (now (bytes .entry))) (first .0) count))) (now (out .entry)) r
+        (now (out .exit)) ⌝ }
 {
     let used = log.used;
     let held = &bytes[..used];
@@ -70,7 +71,8 @@ fn send(log: Log, bytes: &[u8], first: Sequence, count: u16, out: &mut [u8]) -> 
 
 // Answers a request for `count` messages from number `first` on.
 pub fn answer(log: Log, bytes: &[u8], first: Sequence, count: u16, out: &mut [u8]) -> Written
-    ensures { λ r. ⌜ Settled (answerReply log (now (bytes .entry)) (first .0) count (length (now (out .entry)))) (now (out .entry)) r (now (out .exit)) ⌝ }
+    ensures { λ r. ⌜ Settled (answerReply log (now (bytes .entry)) (first .0) count (length (now (out .entry)))) (now (out .entry)) r
+        (now (out .exit)) ⌝ }
 {
     if !log::hangs_together(log, bytes) {
         return Written::Refused(refusal::BROKEN);

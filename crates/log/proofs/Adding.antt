@@ -17,7 +17,8 @@ use Rattle.blocks.specs.Blocks.{frames, whole, isWhole, messagesOf, Each, Short
 use Rattle.blocks.proofs.Frames.{bytes-frames}
 use Rattle.blocks.proofs.Joining.{cut-joined}
 use Rattle.blocks.proofs.Cutting.{cut-frames}
-use Rattle.log.specs.Log.{small, blocksIn, messagesIn, hangs, Kept, extended, growing, fitting, adding, toTheEnd, addingMany, declaring}
+use Rattle.log.specs.Log.{small, blocksIn, messagesIn, hangs, Kept, extended, growing, fitting, adding, toTheEnd, addingMany}
+use Rattle.log.specs.Log.{declaring}
 use Rattle.log.specs.declared.Log.{Log}
 use Rattle.wire.proofs.Tests.{and-left, and-right}
 use Rattle.log.proofs.Hanging.{hanging, hangs-so}
@@ -87,7 +88,8 @@ grown l s ms f =
     rw (up-to s b (l .used) (f .room))
     (cut-joined (length ms) b ms (cut-frames ms (small-short ms (f .sizes))) (l .count) (take (l .used) s) (messagesIn l s) (h .cuts)) in
     record {
-      hung = hangs-so (k .log) (k .bytes) (f .count) (rw z (f .room)) (messagesIn l s ++ ms) e (small-joined (messagesIn l s) ms (h .sizes) (f .sizes));
+      hung = hangs-so (k .log) (k .bytes) (f .count) (rw z (f .room)) (messagesIn l s ++ ms) e
+          (small-joined (messagesIn l s) ms (h .sizes) (f .sizes));
       messages = ap messagesOf e;
       goes-on = f .goes-on;
       size = z;
@@ -111,7 +113,8 @@ module _ (l : Log) (s : List ℕ) (k : Kept) where
       let is : extended l s ms ≡ k = cc (p .1) in
       (f, sym is, rw is at (grown l s ms f))
 
-  pub added-many : (f : List ℕ) → addingMany l s f ≡ taken k → let ms = messagesOf (toTheEnd f) in Fits l s ms × (k ≡ extended l s ms) × Grown l s ms k
+  pub added-many : (f : List ℕ) → addingMany l s f ≡ taken k → let ms = messagesOf (toTheEnd f) in Fits l s ms × (k ≡ extended l s ms)
+      × Grown l s ms k
   unfolding addingMany
   added-many f e =
       let ms = messagesOf (toTheEnd f) in
@@ -120,7 +123,8 @@ module _ (l : Log) (s : List ℕ) (k : Kept) where
       let is : extended l s ms ≡ k = cc (p .1) in
       (f, sym is, rw is at (grown l s ms f))
 
-  pub declared : declaring l s ≡ taken k → (hangs (k .log) (k .bytes) ≡ true) × (messagesIn (k .log) (k .bytes) ≡ messagesIn l s) × (k .log .ended ≡ true) × (k .bytes ≡ s)
+  pub declared : declaring l s ≡ taken k → (hangs (k .log) (k .bytes) ≡ true) × (messagesIn (k .log) (k .bytes) ≡ messagesIn l s)
+      × (k .log .ended ≡ true) × (k .bytes ≡ s)
   unfolding declaring hangs
   declared e =
       let after : Kept = record { log = record { count = l .count; used = l .used; ended = true }; bytes = s } in

@@ -28,14 +28,20 @@ module _ (l : Log) (s : List ℕ) where
       let t = both (a && b) (sound (blocksIn l s)) e in
       let f = both a b (t .0) in
       let q = both (isWhole (blocksIn l s)) (small (messagesIn l s)) (t .1) in
-      record { count = leb-true (l .count) (2 ^ 32 - 2) (f .0); mark = leb-true (l .used) (length s) (f .1); cuts = whole-is (blocksIn l s) (q .0); sizes = q .1 }
+      record {
+        count = leb-true (l .count) (2 ^ 32 - 2) (f .0);
+        mark = leb-true (l .used) (length s) (f .1);
+        cuts = whole-is (blocksIn l s) (q .0);
+        sizes = q .1;
+      }
 
   -- the pass over the blocks decides
   pub hangs-if-sound : l .count ≤ 2 ^ 32 - 2 → l .used ≤ length s → hangs l s ≡ sound (blocksIn l s)
   unfolding hangs
   hangs-if-sound h k = rw (le-leb (l .count) (2 ^ 32 - 2) h, le-leb (l .used) (length s) k)
 
-  pub hangs-so : l .count ≤ 2 ^ 32 - 2 → l .used ≤ length s → (ms : List (List ℕ)) → blocksIn l s ≡ whole ms → small ms ≡ true → hangs l s ≡ true
+  pub hangs-so : l .count ≤ 2 ^ 32 - 2 → l .used ≤ length s → (ms : List (List ℕ)) → blocksIn l s ≡ whole ms → small ms ≡ true
+      → hangs l s ≡ true
   hangs-so h k ms e z = hangs-if-sound h k ∙ rw e z
 
   pub too-many : 2 ^ 32 - 2 < l .count → hangs l s ≡ false

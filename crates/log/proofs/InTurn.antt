@@ -83,8 +83,11 @@ module _ (l : Log) (s m : List ℕ) (ms : List (List ℕ)) where
       let w = u + length (frames (m ∷ ms)) in
       let mark : u + length b + length o ≡ w = omega (arith, rw length-append at (ap length frames-one)) in
       let count : l .count + 1 + length ms ≡ l .count + length (m ∷ ms) = omega arith in
-      let past : drop (u + length b + length o) (one .bytes) ≡ drop (u + length b + length o) s = rw (← drop-drop (length o) (u + length b) (one .bytes), after s b u (f .room), drop-drop (length o) (u + length b) s) in
-      let bytes : take (u + length b) (one .bytes) ++ (o ++ drop (u + length b + length o) (one .bytes)) ≡ take u s ++ (frames (m ∷ ms) ++ drop w s) = rw (past, mark, up-to s b u (f .room), append-assoc (take u s) b (o ++ drop w s), ← append-assoc b o (drop w s), ← frames-one) in
+      let past : drop (u + length b + length o) (one .bytes) ≡ drop (u + length b + length o) s =
+      rw (← drop-drop (length o) (u + length b) (one .bytes), after s b u (f .room), drop-drop (length o) (u + length b) s) in
+      let bytes : take (u + length b) (one .bytes) ++ (o ++ drop (u + length b + length o) (one .bytes)) ≡ take u s
+      ++ (frames (m ∷ ms) ++ drop w s) =
+      rw (past, mark, up-to s b u (f .room), append-assoc (take u s) b (o ++ drop w s), ← append-assoc b o (drop w s), ← frames-one) in
       cc (count, mark, bytes)
 
 nothing-added : (l : Log) (s : List ℕ) → extended l s [] ≡ record { log = l; bytes = s }
@@ -121,7 +124,8 @@ in-turn-fits (o ∷ os) m l s k e =
     both-fit l s m (o ∷ os) (f .0) (in-turn-fits os o (j .log) (j .bytes) k (f .1))
 
 -- what many at once leave, each in turn leaves, and the other way round
-pub many-in-turn : (l : Log) (s : List ℕ) (ms : List (List ℕ)) (k : Kept) → small ms ≡ true → addingMany l s (frames ms) ≡ taken k → inTurn l s ms ≡ taken k
+pub many-in-turn : (l : Log) (s : List ℕ) (ms : List (List ℕ)) (k : Kept) → small ms ≡ true → addingMany l s (frames ms) ≡ taken k
+    → inTurn l s ms ≡ taken k
 many-in-turn l s ms k z e =
     let a = added-many l s k (frames ms) e in
     let same : messagesOf (toTheEnd (frames ms)) ≡ ms = ap messagesOf (all-frames ms (small-short ms z)) in
@@ -129,7 +133,9 @@ many-in-turn l s ms k z e =
     let is : k ≡ extended l s ms = rw same at (a .1) in
     in-turn-taken ms l s f ∙ ap taken (sym is)
 
-pub in-turn-many : (l : Log) (s m : List ℕ) (ms : List (List ℕ)) (k : Kept) → inTurn l s (m ∷ ms) ≡ taken k → addingMany l s (frames (m ∷ ms)) ≡ taken k
+pub in-turn-many : (l : Log) (s m : List ℕ) (ms : List (List ℕ)) (k : Kept) → inTurn l s (m ∷ ms) ≡ taken k
+    → addingMany l s (frames (m ∷ ms)) ≡ taken k
 in-turn-many l s m ms k e =
     let f = in-turn-fits ms m l s k e in
-    takes-many l s (m ∷ ms) f (frames (m ∷ ms)) (all-frames (m ∷ ms) (small-short (m ∷ ms) (f .sizes))) ∙ sym (in-turn-taken (m ∷ ms) l s f) ∙ e
+    takes-many l s (m ∷ ms) f (frames (m ∷ ms)) (all-frames (m ∷ ms) (small-short (m ∷ ms) (f .sizes))) ∙ sym (in-turn-taken (m ∷ ms) l s f)
+    ∙ e

@@ -32,7 +32,8 @@ all-cut (suc n) (x ∷ t) ms e = by (there s) refl (cutAll n (rest s)) refl (all
   some : eqb (length s) 0 ≡ false
   some = ne-eqb (length s) 0 (λ z. omega arith)
 
-  by : (b : Bool) → there s ≡ b → (q : Cut) → cutAll n (rest s) ≡ q → ((os : List (List ℕ)) → cutAll n (rest s) ≡ whole os → cut (length os) (rest s) ≡ whole os) → cut (length ms) s ≡ whole ms
+  by : (b : Bool) → there s ≡ b → (q : Cut) → cutAll n (rest s) ≡ q
+      → ((os : List (List ℕ)) → cutAll n (rest s) ≡ whole os → cut (length os) (rest s) ≡ whole os) → cut (length ms) s ≡ whole ms
   by false h q f more = not-torn (cutAll (suc n) s) ms (rw (some, h) refl) e
   by true h torn f more = not-torn (cutAll (suc n) s) ms (rw (some, h, f) refl) e
   by true h (whole os) f more =
@@ -71,7 +72,8 @@ counted (whole ms) n e =
     (λ z. let f : count.Blocks (length ms) ≡ count.Blocks n = rw z at e in record { cuts = refl; sizes = z; number = cc f })
     (λ z. let f : count.Refused 2 ≡ count.Blocks n = rw z at e in impossible (cc f))
 
-pub not-counted : (l : Log) (s f : List ℕ) (n : ℕ) → hangs l s ≡ true → l .ended ≡ false → tallied (toTheEnd f) ≡ count.Refused n → addingMany l s f ≡ refused n
+pub not-counted : (l : Log) (s f : List ℕ) (n : ℕ) → hangs l s ≡ true → l .ended ≡ false → tallied (toTheEnd f) ≡ count.Refused n
+    → addingMany l s f ≡ refused n
 unfolding addingMany
 not-counted l s f n h g e = by (toTheEnd f) refl where
   by : (q : Cut) → toTheEnd f ≡ q → addingMany l s f ≡ refused n

@@ -12,7 +12,8 @@ module _ (l : Log) (s : List ℕ) where
   pub adding-in-order : (m : List ℕ) → inOrder (10 ∷ 13 ∷ 2 ∷ 7 ∷ 9 ∷ []) (growing l s ++ fitting l s (m ∷ [])) ≡ true
   adding-in-order m = refl
 
-  pub adding-many-in-order : (whole : Bool) (ms : List (List ℕ)) → inOrder (10 ∷ 13 ∷ 4 ∷ 2 ∷ 7 ∷ 9 ∷ []) (growing l s ++ ((whole else 4) ∷ fitting l s ms)) ≡ true
+  pub adding-many-in-order : (whole : Bool) (ms : List (List ℕ))
+      → inOrder (10 ∷ 13 ∷ 4 ∷ 2 ∷ 7 ∷ 9 ∷ []) (growing l s ++ ((whole else 4) ∷ fitting l s ms)) ≡ true
   adding-many-in-order whole ms = refl
 
   pub declaring-in-order : inOrder (10 ∷ 13 ∷ []) (growing l s) ≡ true

@@ -19,7 +19,8 @@ use Rattle.memx.proofs.Header.{length-extra}
 use Rattle.memx.proofs.Taken.{ByType, as-news, as-messages, took}
 
 -- messages are no news
-no-news : {C : Type 0} (kind a b session first : ℕ) (c extra : List ℕ) (ms : List (List ℕ)) → messages session first extra ms ≡ news kind a b c → C
+no-news : {C : Type 0} (kind a b session first : ℕ) (c extra : List ℕ) (ms : List (List ℕ)) → messages session first extra ms ≡ news kind a
+    b c → C
 no-news kind a b session first c extra ms e =
     by-test (kind is 0)
     (λ q. let f : messages session first extra ms ≡ heartbeat a b c = rw q at e in impossible cc)

@@ -14,8 +14,10 @@ use Rattle.wire.proofs.Width.{be-lt, bytes-drop, bytes-take, written-again}
 use Rattle.blocks.specs.Blocks.{frames, messagesOf}
 use Rattle.blocks.proofs.Frames.{short-frames}
 use Rattle.blocks.proofs.Cutting.{cut-frames, frames-cut}
-use Rattle.memx.specs.Packet.{Packet, heartbeat, shutdown, messages, limit, headerSize, headed, laid, write, FitExtra, FitNews, FitMessages, Fit}
-use Rattle.memx.specs.Read.{kindIn, headerIn, sessionIn, numberIn, extraIn, countIn, blocksAt, blocksIn, newsChecks, messagesChecks, news, read}
+use Rattle.memx.specs.Packet.{Packet, heartbeat, shutdown, messages, limit, headerSize, headed, laid, write, FitExtra, FitNews}
+use Rattle.memx.specs.Packet.{FitMessages, Fit}
+use Rattle.memx.specs.Read.{kindIn, headerIn, sessionIn, numberIn, extraIn, countIn, blocksAt, blocksIn, newsChecks, messagesChecks}
+use Rattle.memx.specs.Read.{news, read}
 use Rattle.blocks.proofs.Counting.{whole-is, count-frames}
 use Rattle.memx.proofs.Header.{length-laid, length-extra, header-again}
 use Rattle.memx.proofs.Taken.{ByType, as-news, as-messages, Took, took}
@@ -28,12 +30,22 @@ of-two P p q (suc zero) h = q
 of-two P p q (suc (suc n)) h = absurd (omega arith)
 
 -- heartbeat and shutdown at once
-news-read : (kind session highest : ℕ) (extra : List ℕ) → kind ≤ 1 → FitNews session highest extra → read (headed kind session highest extra []) ≡ taken (news kind session highest extra)
+news-read : (kind session highest : ℕ) (extra : List ℕ) → kind ≤ 1 → FitNews session highest extra
+    → read (headed kind session highest extra []) ≡ taken (news kind session highest extra)
 news-read kind session highest extra k fit =
     let few = fit .extra .few in
-    rw (news-verdict kind session highest extra [] (fit .session) (omega arith) (ne-eqb kind 2 (λ e. omega arith)), le-leb (headerSize + length extra + 0) limit (omega arith), le-leb kind 2 (omega arith), le-leb (headerSize + length extra) 255 (omega arith), le-leb highest _ (fit .bound))
+    rw (
+      news-verdict kind session highest extra [] (fit .session) (omega arith) (ne-eqb kind 2 (λ e. omega arith)),
+      le-leb
+          (headerSize + length extra + 0) limit (omega arith),
+      le-leb kind 2 (omega arith),
+      le-leb (headerSize + length extra) 255
+          (omega arith),
+      le-leb highest _ (fit .bound),
+    )
 
-news-written : (kind session highest : ℕ) (extra : List ℕ) → kind ≤ 1 → write (news kind session highest extra) ≡ headed kind session highest extra []
+news-written : (kind session highest : ℕ) (extra : List ℕ) → kind ≤ 1 → write (news kind session highest extra) ≡ headed kind session
+    highest extra []
 unfolding write
 news-written kind session highest extra k =
     of-two (λ n. write (news n session highest extra) ≡ headed n session highest extra []) refl refl kind k
@@ -44,13 +56,24 @@ fit-news kind session highest extra fit = by (kind is 0) where
   by true = fit
   by false = fit
 
-messages-read : (session first : ℕ) (extra : List ℕ) (ms : List (List ℕ)) → FitMessages session first extra ms → read (laid session first (length ms) extra (frames ms)) ≡ taken (messages session first extra ms)
+messages-read : (session first : ℕ) (extra : List ℕ) (ms : List (List ℕ)) → FitMessages session first extra ms
+    → read (laid session first (length ms) extra (frames ms)) ≡ taken (messages session first extra ms)
 unfolding write
 messages-read session first extra ms fit =
     let size : headerSize + length extra + 2 + length (frames ms) ≤ limit = rw length-laid at (fit .size) in
     let few = count-frames ms in
     let extras = fit .extra .few in
-    rw (laid-verdict session first (length ms) extra (frames ms) (fit .session) (omega arith) (omega arith), le-leb (headerSize + length extra + (2 + length (frames ms))) limit (omega arith), le-leb (headerSize + length extra) 255 (omega arith), cut-frames ms (short-frames ms (omega arith)), ne-eqb first 0 (λ e. omega arith), ne-eqb (length ms) 0 (λ e. omega arith), le-leb (first + length ms) _ (fit .bound))
+    rw (
+      laid-verdict session first (length ms) extra (frames ms) (fit .session) (omega arith) (omega arith),
+      le-leb
+          (headerSize + length extra + (2 + length (frames ms))) limit (omega arith),
+      le-leb (headerSize + length extra) 255 (omega arith),
+      cut-frames ms (short-frames ms (omega arith)),
+      ne-eqb first 0 (λ e. omega arith),
+      ne-eqb (length ms) 0 (λ e. omega arith),
+      le-leb
+          (first + length ms) _ (fit .bound),
+    )
 
 pub written-is-read : (p : Packet) → Fit p → read (write p) ≡ taken p
 unfolding write
@@ -62,17 +85,27 @@ module _ (d : List ℕ) (b : Bytes d) where
   -- the extra bytes of a header that the datagram holds
   extra-fits : headerSize ≤ headerIn d → headerIn d ≤ 255 → headerIn d ≤ length d → FitExtra (extraIn d)
   extra-fits h m l =
-      record { few = rw (length-extra d h l) (omega arith); bytes = bytes-take (headerIn d - headerSize) (drop headerSize d) (bytes-drop headerSize d b) }
+      record {
+        few = rw (length-extra d h l) (omega arith);
+        bytes = bytes-take (headerIn d - headerSize) (drop headerSize d) (bytes-drop headerSize d b);
+      }
 
-  news-again : kindIn d ≤ 1 → headerSize ≤ headerIn d → headerIn d ≤ 255 → Passed (newsChecks d) → let p = news (kindIn d) (sessionIn d) (numberIn d) (extraIn d) in Fit p × (write p ≡ d)
+  news-again : kindIn d ≤ 1 → headerSize ≤ headerIn d → headerIn d ≤ 255 → Passed (newsChecks d)
+      → let p = news (kindIn d) (sessionIn d) (numberIn d) (extraIn d) in Fit p × (write p ≡ d)
   news-again k h m c =
       let size : length d ≡ headerIn d = eqb-true _ _ (c .0) in
       let none : drop (headerIn d) d ≡ [] = drop-of-length-le d {i = headerIn d} (omega arith) in
-      let fit : FitNews (sessionIn d) (numberIn d) (extraIn d) = record { session = be-lt 8 (drop 2 d) (bytes-drop 2 d b); bound = leb-true _ _ (c .1 .0); extra = extra-fits h m (omega arith) } in
-      let again = header-again d b h (omega arith) in
-      (fit-news (kindIn d) (sessionIn d) (numberIn d) (extraIn d) fit, news-written (kindIn d) (sessionIn d) (numberIn d) (extraIn d) k ∙ rw none at again)
+      let fit : FitNews (sessionIn d) (numberIn d) (extraIn d) =
+      record { session = be-lt 8 (drop 2 d) (bytes-drop 2 d b); bound = leb-true _ _ (c .1 .0); extra = extra-fits h m (omega arith) }
+      in
+      let again = header-again d b h (omega arith) in (
+        fit-news (kindIn d) (sessionIn d) (numberIn d) (extraIn d) fit,
+        news-written (kindIn d) (sessionIn d) (numberIn d) (extraIn d) k
+            ∙ rw none at again,
+      )
 
-  messages-again : kindIn d ≡ 2 → headerSize ≤ headerIn d → headerIn d ≤ 255 → length d ≤ limit → Passed (messagesChecks d) → let p = messages (sessionIn d) (numberIn d) (extraIn d) (messagesOf (blocksIn d)) in Fit p × (write p ≡ d)
+  messages-again : kindIn d ≡ 2 → headerSize ≤ headerIn d → headerIn d ≤ 255 → length d ≤ limit → Passed (messagesChecks d)
+      → let p = messages (sessionIn d) (numberIn d) (extraIn d) (messagesOf (blocksIn d)) in Fit p × (write p ≡ d)
   unfolding write
   messages-again k h m l c =
       let ms = messagesOf (blocksIn d) in

@@ -28,7 +28,8 @@ module _ (session first : ℕ) (m : List ℕ) where
   unfolding write
   size = rw (length-laid, length-one) (omega arith)
 
-  pub longest-taken : session < 2 ^ 64 → 1 ≤ first → first + 1 ≤ 2 ^ 64 - 1 → Bytes m → length m ≤ 8950 → read (write (messages session first [] (m ∷ []))) ≡ taken (messages session first [] (m ∷ []))
+  pub longest-taken : session < 2 ^ 64 → 1 ≤ first → first + 1 ≤ 2 ^ 64 - 1 → Bytes m → length m ≤ 8950
+      → read (write (messages session first [] (m ∷ []))) ≡ taken (messages session first [] (m ∷ []))
   longest-taken s f b bytes l =
       let n = size in
       written-is-read (messages session first [] (m ∷ []))

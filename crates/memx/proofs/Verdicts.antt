@@ -14,7 +14,8 @@ use Rattle.wire.proofs.Width.{length-bytesOf}
 use Rattle.blocks.specs.Blocks.{cut, isWhole, messagesOf}
 use Rattle.memx.specs.Packet.{messages, limit, headerSize, headed, laid}
 use Rattle.memx.specs.Read.{blocksAt, news, readNews, readMessages, read}
-use Rattle.memx.proofs.Header.{length-headed, kind-headed, header-headed, session-headed, number-headed, extra-headed, length-laid, count-laid, blocks-laid}
+use Rattle.memx.proofs.Header.{length-headed, kind-headed, header-headed, session-headed, number-headed, extra-headed, length-laid}
+use Rattle.memx.proofs.Header.{count-laid, blocks-laid}
 
 -- what is left to check of a header before so many bytes
 abbrev pub headedChecks : (kind : ℕ) (extra : List ℕ) (size : ℕ) → List Check
@@ -45,19 +46,41 @@ same-size a n =
     (λ e. let z = eqb-false n 0 e in ne-eqb (a + n) a (λ q. z (omega arith)) ∙ sym e)
 
 module _ (kind session number : ℕ) (extra follows : List ℕ) where
-  pub headed-verdict : let d = headed kind session number extra follows in read d ≡ checked (headedChecks kind extra (length follows)) (if kind is 2 then readMessages d else readNews kind d)
+  pub headed-verdict : let d = headed kind session number extra follows in read d ≡ checked (headedChecks kind extra (length follows))
+      (if kind is 2 then readMessages d else readNews kind d)
   unfolding read
   headed-verdict =
       let n = headerSize + length extra + length follows in
-      rw (length-headed, kind-headed, header-headed, ne-eqb n 0 (λ e. omega arith), le-leb headerSize n (omega arith), le-leb headerSize (headerSize + length extra) (omega arith))
+      rw (
+        length-headed,
+        kind-headed,
+        header-headed,
+        ne-eqb n 0 (λ e. omega arith),
+        le-leb headerSize n (omega arith),
+        le-leb headerSize
+            (headerSize + length extra) (omega arith),
+      )
 
-  pub news-verdict : session < 2 ^ 64 → number < 2 ^ 64 → (kind is 2) ≡ false → read (headed kind session number extra follows) ≡ checked (headedChecks kind extra (length follows) ++ restChecks number (length follows)) (taken (news kind session number extra))
+  pub news-verdict : session < 2 ^ 64 → number < 2 ^ 64 → (kind is 2) ≡ false → read (headed kind session number extra follows) ≡ checked
+      (headedChecks kind extra (length follows) ++ restChecks number (length follows)) (taken (news kind session number extra))
   unfolding readNews
   news-verdict s h k =
-      rw (headed-verdict, k, extra-headed, length-headed, header-headed, session-headed kind session number extra follows s, number-headed kind session number extra follows h, same-size (headerSize + length extra) (length follows))
+      rw (
+        headed-verdict,
+        k,
+        extra-headed,
+        length-headed,
+        header-headed,
+        session-headed kind session number extra follows s,
+        number-headed
+            kind session number extra follows h,
+        same-size (headerSize + length extra) (length follows),
+      )
 
 module _ (session first count : ℕ) (extra blocks : List ℕ) (s : session < 2 ^ 64) (f : first < 2 ^ 64) (c : count < 2 ^ 16) where
-  pub laid-verdict : read (laid session first count extra blocks) ≡ checked (headedChecks 2 extra (2 + length blocks) ++ blocksChecks first count blocks) (taken (messages session first extra (messagesOf (cut count blocks))))
+  pub laid-verdict : read (laid session first count extra blocks) ≡ checked
+      (headedChecks 2 extra (2 + length blocks) ++ blocksChecks first count blocks)
+      (taken (messages session first extra (messagesOf (cut count blocks))))
   unfolding readMessages
   laid-verdict =
       let follows = bytesOf 2 count ++ blocks in
@@ -65,4 +88,15 @@ module _ (session first count : ℕ) (extra blocks : List ℕ) (s : session < 2 
       let size : length follows ≡ 2 + length blocks = rw (length-append, length-bytesOf) in
       let l = length-laid session first count extra blocks in
       let h = header-headed 2 session first extra follows in
-      rw (headed-verdict 2 session first extra follows, size, extra-headed, session-headed 2 session first extra follows s, number-headed 2 session first extra follows f, count-laid session first count extra blocks c, blocks-laid, le-leb (blocksAt d) (length d) (omega arith))
+      rw (
+        headed-verdict 2 session first extra follows,
+        size,
+        extra-headed,
+        session-headed 2 session first extra follows s,
+        number-headed 2
+            session first extra follows f,
+        count-laid session first count extra blocks c,
+        blocks-laid,
+        le-leb (blocksAt d) (length d)
+            (omega arith),
+      )

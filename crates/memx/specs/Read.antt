@@ -36,8 +36,8 @@ blocksAt d = headerIn d + 2
 abbrev pub blocksIn : List ℕ → Cut
 blocksIn d = cut (countIn d) (drop (blocksAt d) d)
 
--- of any type: there are bytes and not too many, the type is known, the header's own fields are there, and the header's length covers them. It is a byte: over
--- 255 stands only in what would be written with too many extra bytes
+-- of any type: there are bytes and not too many, the type is known, the header's own fields are there, and the header's length covers them.
+-- It is a byte: over 255 stands only in what would be written with too many extra bytes
 abbrev pub headerChecks : List ℕ → List Check
 headerChecks d =
     (not (length d is 0) else 1)

@@ -40,9 +40,43 @@ Again k s r =
 
 again-rows : (k : ℕ) (s : List ℕ) → Rows (Again k s) table
 unfolding valuesIn
-again-rows k s = ((refl, refl), ((refl, refl), ((refl, refl), ((refl, refl), ((refl, refl), ((refl, refl), ((refl, refl), ((refl, refl), ((refl, refl), ((refl, refl), ((refl, refl), ((refl, refl), ((refl, refl), ((refl, refl), ((refl, refl), ((refl, refl), ((refl, refl), λ kind. (refl, refl))))))))))))))))))
+again-rows k s = (
+  (refl, refl),
+  (
+    (refl, refl),
+    (
+      (refl, refl),
+      (
+        (refl, refl),
+        (
+          (refl, refl),
+          (
+            (refl, refl),
+            (
+              (refl, refl),
+              (
+                (refl, refl),
+                (
+                  (refl, refl),
+                  (
+                    (refl, refl),
+                    (
+                      (refl, refl),
+                      ((refl, refl), ((refl, refl), ((refl, refl), ((refl, refl), ((refl, refl), ((refl, refl), λ kind. (refl, refl))))))),
+                    ),
+                  ),
+                ),
+              ),
+            ),
+          ),
+        ),
+      ),
+    ),
+  ),
+)
 
-pub named-again : (k : ℕ) (s : List ℕ) → let p = fieldsBy k (valuesIn (fieldsOf k) s) in (p .kind ≡ k) × (valuesOf p ≡ valuesIn (fieldsOf k) s)
+pub named-again : (k : ℕ) (s : List ℕ) → let p = fieldsBy k (valuesIn (fieldsOf k) s) in (p .kind ≡ k)
+    × (valuesOf p ≡ valuesIn (fieldsOf k) s)
 unfolding fieldsOf fieldsBy valuesOf
 named-again k s =
     let a : Again k s (rowIn table k) = of-row (Again k s) table k (again-rows k s) in
@@ -121,7 +155,8 @@ passes test arms [] = true
 passes test arms (r ∷ rows) = (inArm arms (r .kind) || test r) && passes test arms rows
 
 -- and a row of nothing passes, the row of a type passes that is in no arm
-row-passes : (test : Row → Bool) (arms : List (List ℕ)) (rows : List Row) → passes test arms rows ≡ true → ((kind : ℕ) → test (rowIn [] kind) ≡ true) → (k : ℕ) → inArm arms k ≡ false → test (rowIn rows k) ≡ true
+row-passes : (test : Row → Bool) (arms : List (List ℕ)) (rows : List Row) → passes test arms rows ≡ true
+    → ((kind : ℕ) → test (rowIn [] kind) ≡ true) → (k : ℕ) → inArm arms k ≡ false → test (rowIn rows k) ≡ true
 row-passes test arms [] e none k m = none k
 row-passes test arms (r ∷ rows) e none k m =
     let here = inArm arms (r .kind) || test r in
@@ -130,7 +165,8 @@ row-passes test arms (r ∷ rows) e none k m =
     (λ q. let n : inArm arms (r .kind) ≡ false = rw (← eqb-true k (r .kind) q) m in rw q (rw n at (and-left here there e)))
     (λ q. rw q (row-passes test arms rows (and-right here there e) none k m))
 
-pub otherwise : (test : Row → Bool) (arms : List (List ℕ)) → passes test arms table ≡ true → ((kind : ℕ) → test (rowIn [] kind) ≡ true) → (k : ℕ) → Missed arms k → test (rowIn table k) ≡ true
+pub otherwise : (test : Row → Bool) (arms : List (List ℕ)) → passes test arms table ≡ true → ((kind : ℕ) → test (rowIn [] kind) ≡ true)
+    → (k : ℕ) → Missed arms k → test (rowIn table k) ≡ true
 otherwise test arms e none k m = row-passes test arms table e none k (all-missed arms k m)
 
 -- no lawful packet is over the limit

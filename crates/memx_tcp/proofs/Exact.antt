@@ -23,7 +23,14 @@ pub written-is-read : (p : Packet) → Fit p → read (write p) ≡ taken p
 written-is-read p fit =
     let s = short (p .kind) in
     let b = fit .bound in
-    rw (written-verdict p (fit .sizes), le-leb (headerSize + size (fieldsOf (p .kind)) + length (p .tail)) limit (omega arith), fit .type, le-leb (length (p .tail)) (mostOf (p .kind)) b, fit .letters, fit .numbers)
+    rw (
+      written-verdict p (fit .sizes),
+      le-leb (headerSize + size (fieldsOf (p .kind)) + length (p .tail)) limit (omega arith),
+      fit .type,
+      le-leb (length (p .tail)) (mostOf (p .kind)) b,
+      fit .letters,
+      fit .numbers,
+    )
 
 module _ (d : List ℕ) (b : Bytes d) where
   again : Framed d → write (packetIn d) ≡ d
@@ -33,7 +40,8 @@ module _ (d : List ℕ) (b : Bytes d) where
       let l : length s ≡ statedIn d = rw length-drop (let e = f .stated in omega arith) in
       let fixed = f .fixed in
       let follows : laid (fieldsIn d) (valuesIn (fieldsIn d) s) ++ drop (endIn d) d ≡ s =
-      rw (← drop-drop (size (fieldsIn d)) headerSize d) (laid-values (fieldsIn d) s (bytes-drop headerSize d b) (rw length-drop (omega arith))) in
+      rw (← drop-drop (size (fieldsIn d)) headerSize d)
+      (laid-values (fieldsIn d) s (bytes-drop headerSize d b) (rw length-drop (omega arith))) in
       rw (follows, l, written-again 2 1 d b (let e = f .stated in omega arith)) (sym (drop-cons d 0 0 (let e = f .stated in omega arith)))
 
   pub read-is-written : (p : Packet) → read d ≡ taken p → Fit p × (write p ≡ d)

@@ -32,7 +32,13 @@ values-laid [] (v ∷ vs) t h = absurd h
 values-laid (f ∷ fs) [] t h = absurd h
 values-laid (f ∷ fs) (v ∷ vs) t h =
     let k = width f in
-    rw (append-assoc (bytesOf k v) (laid fs vs) t, be-bytesOf k v (laid fs vs ++ t) (h .0), drop-at (bytesOf k v) (laid fs vs ++ t) k (length-bytesOf k v), values-laid fs vs t (h .1))
+    rw (
+      append-assoc (bytesOf k v) (laid fs vs) t,
+      be-bytesOf k v (laid fs vs ++ t) (h .0),
+      drop-at (bytesOf k v) (laid fs vs ++ t) k
+          (length-bytesOf k v),
+      values-laid fs vs t (h .1),
+    )
 
 pub sized-values : (fs : List Field) (s : List ℕ) → Bytes s → Sized fs (valuesIn fs s)
 unfolding Sized valuesIn

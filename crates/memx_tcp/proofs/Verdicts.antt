@@ -51,7 +51,13 @@ module _ (p : Packet) (h : Sized (fieldsOf (p .kind)) (p .values)) where
   framed-written : whole ≤ limit → framed (write p) ≡ length (p .tail) atMost mostOf (p .kind)
   unfolding framed write
   framed-written s =
-      rw (length-written, eq-eqb (headerSize + statedIn (write p)) whole (stated-written s), le-leb (headerSize + size fields) whole (omega arith), tail-written)
+      rw (
+        length-written,
+        eq-eqb (headerSize + statedIn (write p)) whole (stated-written s),
+        le-leb (headerSize + size fields) whole
+            (omega arith),
+        tail-written,
+      )
 
   abbrev pub writtenChecks : List Check
   writtenChecks =
@@ -66,5 +72,12 @@ module _ (p : Packet) (h : Sized (fieldsOf (p .kind)) (p .values)) where
   unfolding read write
   written-verdict =
       by-test (whole atMost limit)
-      (λ e. rw (length-written, ne-eqb whole 0 (λ z. omega arith), e, framed-written (leb-true whole limit e), values-written, tail-written))
+      (λ e. rw (
+        length-written,
+        ne-eqb whole 0 (λ z. omega arith),
+        e,
+        framed-written (leb-true whole limit e),
+        values-written,
+        tail-written,
+      ))
       (λ e. rw (length-written, ne-eqb whole 0 (λ z. omega arith), e))

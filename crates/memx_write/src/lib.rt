@@ -38,7 +38,8 @@ fn put_messages(
     blocks: &[u8],
 )
     requires { ⌜ (length (now extra) ≤ 237) × (headerSize + length (now extra) + 2 + length (now blocks) ≤ length (now out)) ⌝ }
-    ensures { λ _. ⌜ now (out .exit) ≡ sets (now (out .entry)) 0 (laid (session .0) (first .0) count (now (extra .entry)) (now (blocks .entry))) ⌝ }
+    ensures { λ _. ⌜ now (out .exit) ≡ sets (now (out .entry)) 0
+        (laid (session .0) (first .0) count (now (extra .entry)) (now (blocks .entry))) ⌝ }
 {
     let header = layout::HEADER + extra.len();
     put_header(out, layout::MESSAGES, session, first, extra);
@@ -55,7 +56,8 @@ fn write_news(
     out: &mut [u8],
 ) -> Written
     requires { ⌜ kind ≤ 1 ⌝ }
-    ensures { λ r. ⌜ Settled (sent (headed kind (session .0) (highest .0) (now (extra .entry)) []) (length (now (out .entry)))) (now (out .entry)) r (now (out .exit)) ⌝ }
+    ensures { λ r. ⌜ Settled (sent (headed kind (session .0) (highest .0) (now (extra .entry)) []) (length (now (out .entry))))
+        (now (out .entry)) r (now (out .exit)) ⌝ }
 {
     let header = layout::HEADER + extra.len();
     if layout::LIMIT < header {
@@ -81,7 +83,8 @@ pub fn write_heartbeat(
     extra: &[u8],
     out: &mut [u8],
 ) -> Written
-    ensures { λ r. ⌜ Settled (reply (heartbeat (session .0) (highest .0) (now (extra .entry))) (length (now (out .entry)))) (now (out .entry)) r (now (out .exit)) ⌝ }
+    ensures { λ r. ⌜ Settled (reply (heartbeat (session .0) (highest .0) (now (extra .entry))) (length (now (out .entry))))
+        (now (out .entry)) r (now (out .exit)) ⌝ }
 {
     write_news(layout::HEARTBEAT, session, highest, extra, out)
 }
@@ -92,7 +95,8 @@ pub fn write_shutdown(
     extra: &[u8],
     out: &mut [u8],
 ) -> Written
-    ensures { λ r. ⌜ Settled (reply (shutdown (session .0) (highest .0) (now (extra .entry))) (length (now (out .entry)))) (now (out .entry)) r (now (out .exit)) ⌝ }
+    ensures { λ r. ⌜ Settled (reply (shutdown (session .0) (highest .0) (now (extra .entry))) (length (now (out .entry))))
+        (now (out .entry)) r (now (out .exit)) ⌝ }
 {
     write_news(layout::SHUTDOWN, session, highest, extra, out)
 }
@@ -106,7 +110,8 @@ pub fn write_messages(
     blocks: &[u8],
     out: &mut [u8],
 ) -> Written
-    ensures { λ r. ⌜ Settled (sent (laid (session .0) (first .0) count (now (extra .entry)) (now (blocks .entry))) (length (now (out .entry)))) (now (out .entry)) r (now (out .exit)) ⌝ }
+    ensures { λ r. ⌜ Settled (sent (laid (session .0) (first .0) count (now (extra .entry)) (now (blocks .entry)))
+        (length (now (out .entry)))) (now (out .entry)) r (now (out .exit)) ⌝ }
 {
     let more = extra.len();
     let place = layout::BLOCKS + more;

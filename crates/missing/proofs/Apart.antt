@@ -45,7 +45,8 @@ in-before k m (r ∷ rs) w =
     (λ e.
     let q = eqb-true (r .first .0) (suc m) e in
     let v : ((m ≤ k) × (k ≤ r .last .0)) ⊎ Within k rs = rw e at w in
-    ⊎-elim (λ i. by-test (eqb k m) (λ s. inl (eqb-true k m s)) (λ s. let t = eqb-false k m s in inr (inl (omega arith, i .1)))) (λ j. inr (inr j)) v)
+    ⊎-elim (λ i. by-test (eqb k m) (λ s. inl (eqb-true k m s)) (λ s. let t = eqb-false k m s in inr (inl (omega arith, i .1))))
+    (λ j. inr (inr j)) v)
     (λ e.
     let v : ((m ≤ k) × (k ≤ m)) ⊎ Within k (r ∷ rs) = rw e at w in
     ⊎-elim (λ i. inl (omega arith)) inr v)

@@ -39,7 +39,8 @@ module _ (so : ℕ → Bool) where
   rest-apart m (suc n) h = rw (h (omega arith)) (ranges-apart so (suc m) n)
 
   -- missing numbers, and then a held one or the end, are one range before the rest
-  pub one-range : (d m n : ℕ) → Runs so false m (m + suc d) → (0 < n → so (m + suc d) ≡ true) → ranges so m (suc d + n) ≡ (m to (m + d)) ∷ ranges so (m + suc d) n
+  pub one-range : (d m n : ℕ) → Runs so false m (m + suc d) → (0 < n → so (m + suc d) ≡ true)
+      → ranges so m (suc d + n) ≡ (m to (m + d)) ∷ ranges so (m + suc d) n
   one-range zero m n h e =
       let a : m + 1 ≡ suc m = omega arith in
       let b : 1 + n ≡ suc n = omega arith in
@@ -50,5 +51,6 @@ module _ (so : ℕ → Bool) where
       let a : suc m + d ≡ m + suc d = omega arith in
       let b : suc m + suc d ≡ m + suc (suc d) = omega arith in
       let c : suc (suc d) + n ≡ suc (suc d + n) = omega arith in
-      let i : ranges so (suc m) (suc d + n) ≡ ((suc m) to (suc m + d)) ∷ ranges so (suc m + suc d) n = one-range d (suc m) n (λ k f g. h k (omega arith) (omega arith)) (rw (← b) at e) in
+      let i : ranges so (suc m) (suc d + n) ≡ ((suc m) to (suc m + d)) ∷ ranges so (suc m + suc d) n =
+      one-range d (suc m) n (λ k f g. h k (omega arith) (omega arith)) (rw (← b) at e) in
       rw (c, one-missing m (suc d + n) (h m (omega arith) (omega arith)), i, eq-eqb (suc m) (suc m) refl, a, b)

@@ -15,7 +15,11 @@ use Rattle.missing.specs.Runs.{Runs}
 
 pub held-ahead : (held next ahead : ℕ) → isHeld held next (next + ahead) ≡ (1 atMost ahead && ahead atMost 31 && full held (next + ahead))
 held-ahead held next ahead =
-    rw (leb-same (next + 1) (next + ahead) 1 ahead (λ h. omega arith) (λ h. omega arith), leb-same (next + ahead) (next + 31) ahead 31 (λ h. omega arith) (λ h. omega arith))
+    rw (
+      leb-same (next + 1) (next + ahead) 1 ahead (λ h. omega arith) (λ h. omega arith),
+      leb-same (next + ahead) (next + 31) ahead 31
+          (λ h. omega arith) (λ h. omega arith),
+    )
 
 module _ (held next m : ℕ) where
   pub held-within : isHeld held next m ≡ true → (next < m) × (m ≤ next + 31)

@@ -14,7 +14,8 @@ use Rattle.wire.proofs.Width.{be-bytesOf, bytesOf-be, bytes-drop, length-bytesO
 
 module _ (j k : ℕ) where
   -- two fields side by side, read from what was written
-  pair-read : (m n : ℕ) (t : List ℕ) → m < 2 ^ (8 * j) → n < 2 ^ (8 * k) → (be j ((bytesOf j m ++ bytesOf k n) ++ t) ≡ m) × (be k (drop j ((bytesOf j m ++ bytesOf k n) ++ t)) ≡ n)
+  pair-read : (m n : ℕ) (t : List ℕ) → m < 2 ^ (8 * j) → n < 2 ^ (8 * k) → (be j ((bytesOf j m ++ bytesOf k n) ++ t) ≡ m)
+      × (be k (drop j ((bytesOf j m ++ bytesOf k n) ++ t)) ≡ n)
   pair-read m n t h l =
       let e : (bytesOf j m ++ bytesOf k n) ++ t ≡ bytesOf j m ++ (bytesOf k n ++ t) = append-assoc (bytesOf j m) (bytesOf k n) t in
       rw e (
@@ -31,7 +32,8 @@ module _ (j k : ℕ) where
   pair-put d at m n = sets-after d at j (bytesOf j m) (bytesOf k n) (length-bytesOf j m)
 
   -- the same where each is stored by a call of its own
-  pub pair-puts : (d mid left : List ℕ) (at m n : ℕ) → mid ≡ sets d at (bytesOf j m) → left ≡ sets mid (at + j) (bytesOf k n) → left ≡ sets d at (bytesOf j m ++ bytesOf k n)
+  pub pair-puts : (d mid left : List ℕ) (at m n : ℕ) → mid ≡ sets d at (bytesOf j m) → left ≡ sets mid (at + j) (bytesOf k n)
+      → left ≡ sets d at (bytesOf j m ++ bytesOf k n)
   pair-puts d mid left at m n e f = f ∙ ap (λ (x : List ℕ). sets x (at + j) (bytesOf k n)) e ∙ pair-put d at m n
 
 -- what fits a name's two numbers

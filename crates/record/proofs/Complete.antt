@@ -56,7 +56,8 @@ module _ (r : Record) (h : hangs r ≡ true) where
   pub missing-if : r .next .0 ≤ r .top .0 → standing r ≡ taken (missing (missingOf r))
   missing-if n = rw (stands, le-leb (r .next .0) (r .top .0) n)
 
--- What a record stands at is what it means: complete is ended and N = T+1, ongoing is N = T+1 with no end, missing is what of N to T is not held.
+-- What a record stands at is what it means: complete is ended and N = T+1, ongoing is N = T+1 with no end, missing is what of N to T is not
+-- held.
 pub standing-means : (r : Record) (s : State) → standing r ≡ taken s → Means r s
 unfolding standing
 standing-means r s e =
@@ -65,5 +66,6 @@ standing-means r s e =
     rw same at (means r (p .0 .0))
 
 -- What a record says is missing is all that it lacks, and nothing else: what of N to T is not held.
-pub missing-means : (r : Record) (rs : List Range) → standing r ≡ taken (missing rs) → (k : ℕ) → Within k rs ↔ ((r .next .0 ≤ k) × (k ≤ r .top .0) × (isHeld (r .held) (r .next .0) k ≡ false))
+pub missing-means : (r : Record) (rs : List Range) → standing r ≡ taken (missing rs) → (k : ℕ) → Within k rs
+    ↔ ((r .next .0 ≤ k) × (k ≤ r .top .0) × (isHeld (r .held) (r .next .0) k ≡ false))
 missing-means r rs e k = rw (standing-means r (missing rs) e .0) (missing-exactly (r .held) (r .next .0) (r .top .0) k)

@@ -42,4 +42,12 @@ hanging r e =
 pub hangs-so : (r : Record) → Hanging r → hangs r ≡ true
 unfolding hangs
 hangs-so r h =
-    rw (le-leb 1 (r .next .0) (h .begun), le-leb (r .next .0) (r .top .0 + 1) (h .near), le-leb (r .asked .0) (r .next .0) (h .old), le-leb (r .top .0) (highest (r .session)) (h .bound), h .named, h .placed)
+    rw (
+      le-leb 1 (r .next .0) (h .begun),
+      le-leb (r .next .0) (r .top .0 + 1) (h .near),
+      le-leb (r .asked .0) (r .next .0) (h .old),
+      le-leb
+          (r .top .0) (highest (r .session)) (h .bound),
+      h .named,
+      h .placed,
+    )

@@ -30,8 +30,9 @@ use Rattle.record.specs.Standing.{complete, missing, standing}
 use Rattle.session.specs.Session.{_among_, enough, State, logged, takes, step, Run, Reached}
 use Rattle.session.specs.Caller.{ByContract}
 use Rattle.session.specs.InPlace.{ByContractInPlace}
-use Rattle.session.specs.Promise.{holds, Faithful, Received, Delivered, Outcome, Due, made, Asked, Answered, Exchange, Exchanges, Under, EachUnder}
-use Rattle.session.proofs.Steps.{inv, received}
+use Rattle.session.specs.Promise.{holds, Faithful, Received, Delivered, Outcome, Due, made, Asked, Answered, Exchange, Exchanges}
+use Rattle.session.specs.Promise.{Under, EachUnder}
+use Rattle.session.proofs.EveryStep.{inv, received}
 use Rattle.session.proofs.Deliveries as deliveries
 use Rattle.session.proofs.Standing as standings
 use Rattle.session.proofs.Ending as ending
@@ -70,8 +71,8 @@ pub never-refused : {s : State}
 never-refused {s} r datagram room m e = received s (inv r) datagram (inv r .line datagram m) room e
 
 -- 3. Once End of Session has been taken, it is the end of the server's log, and the record stands either as complete, and the
--- deliveries are the whole log; or as not complete, and the ranges that it names as missing are exactly what of the log was not delivered and
--- is not held.
+-- deliveries are the whole log; or as not complete, and the ranges that it names as missing are exactly what of the log was not delivered
+-- and is not held.
 pub at-the-end : {s t : State}
     → Reached s
     → (datagram : List ℕ) (room total : ℕ)
@@ -137,7 +138,8 @@ pub fetched : {s t : State} → Reached s → (x : Exchange s t) → Delivered t
 fetched {s} {t} r x = fetching.fetched s t (inv r) x
 
 -- And it can be had: where the line carries the request and the answer, there is such an exchange.
-pub exchange : {s : State} → Reached s → (first count : ℕ) (due : Due s first count) → (t : State) × (x : Exchange s t) × Under (due .sheet) (due .rule) (due .elapsed) x
+pub exchange : {s : State} → Reached s → (first count : ℕ) (due : Due s first count) → (t : State) × (x : Exchange s t)
+    × Under (due .sheet) (due .rule) (due .elapsed) x
 exchange {s} r first count due = serving.exchange s (inv r) first count due
 
 -- 5. A hole, the first range that is missing, is fetched in no more exchanges, one after another, than it has messages.
@@ -171,12 +173,13 @@ pub fillable : {s : State}
 fillable {s} r first last others e sheet rule elapsed over = filling.fillable sheet rule elapsed over s (inv r) first last others e
 
 -- Every rule that has a wait comes to that: once the wait has elapsed it is over.
-pub wait-ends : (sheet : Sheet) (rule : Patience) (wait : Float) → waiting sheet rule ≡ taken (some wait) → waitOver sheet rule wait ≡ taken true
+pub wait-ends : (sheet : Sheet) (rule : Patience) (wait : Float) → waiting sheet rule ≡ taken (some wait)
+    → waitOver sheet rule wait ≡ taken true
 wait-ends = waits.wait-ends
 
--- 6. And it happens, worked out byte by byte, with any area of 32 slots: a login is accepted, and the `A` arrives; of three messages the third
--- comes first and is held, the first comes twice and the second is lost; the end is heard with the second still missing; one exchange fetches
--- it, and the third goes out behind it.
+-- 6. And it happens, worked out byte by byte, with any area of 32 slots: a login is accepted, and the `A` arrives; of three messages the
+-- third comes first and is held, the first comes twice and the second is lost; the end is heard with the second still missing; one exchange
+-- fetches it, and the third goes out behind it.
 pub happens : (area : List ℕ)
     → areaSize ≤ length area
     → Reached (specimen.s area)

@@ -18,18 +18,21 @@ use Rattle.session.specs.Promise.{Faithful, Delivered}
 use Rattle.session.proofs.Logs.{Hung}
 use Rattle.session.proofs.Reports.{held-known}
 use Rattle.session.proofs.Invariant.{Inv}
-use Rattle.session.proofs.Steps.{hung-record}
+use Rattle.session.proofs.EveryStep.{hung-record}
 
 -- the lent bytes begin with the log's blocks, and these with the blocks of its first messages
 log-bytes : (l : Log) (s : List ℕ) → Hung l s → frames (messagesIn l s) ≡ take (l .used) s
-log-bytes l s h = frames-cut (l .count) (take (l .used) s) (messagesIn l s) (bytes-take (l .used) s (h .bytes)) (hanging l s (h .whole) .cuts) .0
+log-bytes l s h = frames-cut (l .count) (take (l .used) s) (messagesIn l s) (bytes-take (l .used) s (h .bytes))
+    (hanging l s (h .whole) .cuts) .0
 
-first-bytes : (l : Log) (s : List ℕ) → Hung l s → (n : ℕ) (got : List (List ℕ)) → got ≡ take n (messagesIn l s) → frames got ≡ take (length (frames got)) s
+first-bytes : (l : Log) (s : List ℕ) → Hung l s → (n : ℕ) (got : List (List ℕ)) → got ≡ take n (messagesIn l s)
+    → frames got ≡ take (length (frames got)) s
 first-bytes l s h n got e =
     let ms : List (List ℕ) = messagesIn l s in
     let more : List ℕ = frames (drop n ms) ++ drop (l .used) s in
     let all : s ≡ frames got ++ more =
-    sym (take-append-drop (l .used) s) ∙ ap (λ (x : List ℕ). x ++ drop (l .used) s) (sym (log-bytes l s h) ∙ frames-split n ms ∙ ap (λ (x : List (List ℕ)). frames x ++ frames (drop n ms)) (sym e))
+    sym (take-append-drop (l .used) s) ∙ ap (λ (x : List ℕ). x ++ drop (l .used) s)
+    (sym (log-bytes l s h) ∙ frames-split n ms ∙ ap (λ (x : List (List ℕ)). frames x ++ frames (drop n ms)) (sym e))
     ∙ append-assoc (frames got) (frames (drop n ms)) (drop (l .used) s) in
     sym (ap (take (length (frames got))) all ∙ take-append-seam (frames got) more)
 
@@ -55,4 +58,8 @@ module _ (s : State) (i : Inv s) where
   pub delivered : (n : ℕ) → 1 ≤ n → n < s .kept .next .0 → Delivered s n
   delivered n a b =
       let l = length-deliveries in
-      record { some = a; within = omega arith; same = rw (i .hold .begun) (getD-take (s .kept .next .0 - 1) (logged s) (n - 1) [] (omega arith)) }
+      record {
+        some = a;
+        within = omega arith;
+        same = rw (i .hold .begun) (getD-take (s .kept .next .0 - 1) (logged s) (n - 1) [] (omega arith));
+      }

@@ -7,23 +7,24 @@ use mathlib.Core.Bool.{true, or-true}
 use lib.ListN.{length}
 use Rattle.wire.specs.Checks.{taken}
 use Rattle.ufo.specs.Down as ufo
-use Rattle.hearing.specs.Hearing.{end}
+use Rattle.reports.specs.Reports.{end}
 use Rattle.session.specs.Session.{enough, State, logged, takes, step, Run}
 use Rattle.session.specs.Promise.{Outcome}
 use Rattle.session.proofs.Invariant.{Vouches, Inv}
-use Rattle.session.proofs.Steps.{taken-so, told, good, along}
+use Rattle.session.proofs.EveryStep.{taken-so, told, good, along}
 use Rattle.session.proofs.Standing.{outcome}
 use Rattle.session.proofs.Fetching.{same-report}
 
 module _ (datagram : List ℕ) (total : ℕ) (e : ufo.read datagram ≡ taken (ufo.end total)) where
   -- what it reports, wherever it arrives
   reports : (s : State) (g : Vouches s datagram) → g .report ≡ end total
-  reports s g = same-report datagram (g .packet) (ufo.end total) (g .report) (end total) (g .gives .reads) e (g .vouched .heard) refl
+  reports s g = same-report datagram (g .packet) (ufo.end total) (g .report) (end total) (g .gives .reads) e (g .vouched .reports) refl
 
   marks : (s : State) (i : Inv s) (g : Vouches s datagram) (room : ℕ) → enough ≤ room → step s (takes datagram room) .kept .ended ≡ true
   marks s i g room h = rw (taken-so s i datagram g room h, reports s g) (or-true (s .kept .ended))
 
-  pub ended : (s t : State) → Inv s → (room : ℕ) → List·Memᴰ datagram (s .down) → enough ≤ room → Run (step s (takes datagram room)) t → (t .log .ended ≡ true) × (length (logged t) ≡ total) × Outcome t
+  pub ended : (s t : State) → Inv s → (room : ℕ) → List·Memᴰ datagram (s .down) → enough ≤ room → Run (step s (takes datagram room)) t
+      → (t .log .ended ≡ true) × (length (logged t) ≡ total) × Outcome t
   ended s t i room m h r =
       let g = good s (takes datagram room) m i in
       let k = along r (g .inv) in
@@ -31,5 +32,9 @@ module _ (datagram : List ℕ) (total : ℕ) (e : ufo.read datagram ≡ taken (u
       let j = k .inv in
       let v = told t j datagram (j .line datagram n) (ufo.end total) (end total) e refl in
       let f = rw (reports t v) at (v .vouched .genuine .final) in
-      let o = f refl in
-      (o .0, sym (o .1), outcome t j (k .later .over (marks s i (told s i datagram (i .line datagram m) (ufo.end total) (end total) e refl) room h)))
+      let o = f refl in (
+        o .0,
+        sym (o .1),
+        outcome t j (k .later .over (marks s i (told s i datagram (i .line datagram m) (ufo.end total) (end total) e refl)
+            room h)),
+      )

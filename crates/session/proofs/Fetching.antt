@@ -8,7 +8,7 @@ use lib.ListN.{length}
 use Rattle.wire.specs.Checks.{taken}
 use Rattle.ufo.specs.Down as ufo
 use Rattle.lend.specs.Answer.{answerTo}
-use Rattle.hearing.specs.Hearing.{Report, ofUfo}
+use Rattle.reports.specs.Reports.{Report, ofUfo}
 use Rattle.missing.specs.Missing.{_to_}
 use Rattle.missing.specs.declared.Range.{Range}
 use Rattle.record.specs.Standing.{missing, standing}
@@ -18,7 +18,7 @@ use Rattle.session.specs.Promise.{Delivered, Due, made, Exchange, Exchan
 use Rattle.session.proofs.Reports.{firstOf, carried}
 use Rattle.session.proofs.Line.{answers, answer-gives}
 use Rattle.session.proofs.Invariant.{Vouches, Inv, Good, chain}
-use Rattle.session.proofs.Steps.{taken-so, brought, told, good, along}
+use Rattle.session.proofs.EveryStep.{taken-so, brought, told, good, along}
 use Rattle.session.proofs.Deliveries.{delivered}
 use Rattle.session.proofs.Standing.{begins-at-next, reaches}
 
@@ -26,7 +26,8 @@ use Rattle.session.proofs.Standing.{begins-at-next, reaches}
 pub due-asks : (s : State) (first count : ℕ) (due : Due s first count) → Requests (s .kept) first count (due .after)
 due-asks s first count due = requests (s .kept) (due .sheet) (due .rule) (due .elapsed) first count (due .after) (due .wish)
 
-pub due-first : (s : State) (first count : ℕ) → Due s first count → (last : ℕ) × (others : List Range) × (standing (s .kept) ≡ taken (missing ((first to last) ∷ others))) × (count ≡ min (last - first + 1) 65535)
+pub due-first : (s : State) (first count : ℕ) → Due s first count → (last : ℕ) × (others : List Range)
+    × (standing (s .kept) ≡ taken (missing ((first to last) ∷ others))) × (count ≡ min (last - first + 1) 65535)
 due-first s first count due =
     let a = due-asks s first count due in
     let f = begins-at-next (s .kept) (a .hangs) (a .lacks) in
@@ -38,7 +39,8 @@ takes-past : (w : State) (i : Inv w) (d : List ℕ) (g : Vouches w d) (room : �
 takes-past w i d g room e h = rw (taken-so w i d g room e) (brought w i d g .past h)
 
 -- one datagram gives one report
-pub same-report : (d : List ℕ) (p q : ufo.Packet) (a b : Report) → ufo.read d ≡ taken p → ufo.read d ≡ taken q → ofUfo p ≡ taken a → ofUfo q ≡ taken b → a ≡ b
+pub same-report : (d : List ℕ) (p q : ufo.Packet) (a b : Report) → ufo.read d ≡ taken p → ufo.read d ≡ taken q → ofUfo p ≡ taken a
+    → ofUfo q ≡ taken b → a ≡ b
 same-report d p q a b e f g h =
     let same : p ≡ q = cc in
     let k : taken a ≡ taken b = sym g ∙ ap ofUfo same ∙ h in
@@ -59,9 +61,11 @@ exchanged s t i x =
     let g₄ : Good w (step w (takes d (x .roomOut))) = good w (takes d (x .roomOut)) (x .arrives) k in
     let p = answers (u .log) (u .lent) (j .hung) (x .roomDown) d f (x .count) (x .answer) in
     let v = answer-gives (u .log) (u .lent) (j .hung) (x .roomDown) d f (x .count) (x .answer) in
-    let l = told w k d (k .line d (x .arrives)) (answerTo (u .log .ended) (logged u) f (x .count)) (p .report) (v .reads) (p .vouched .heard) in
+    let l = told w k d (k .line d (x .arrives)) (answerTo (u .log .ended) (logged u) f (x .count)) (p .report) (v .reads)
+    (p .vouched .reports) in
     let same : l .report ≡ p .report =
-    same-report d (l .packet) (answerTo (u .log .ended) (logged u) f (x .count)) (l .report) (p .report) (l .gives .reads) (v .reads) (l .vouched .heard) (p .vouched .heard) in
+    same-report d (l .packet) (answerTo (u .log .ended) (logged u) f (x .count)) (l .report) (p .report) (l .gives .reads) (v .reads)
+    (l .vouched .reports) (p .vouched .reports) in
     let low : f ≤ length (logged u) = omega (arith, a .from, a .lacks, i .hold .known, g₂ .later .log) in
     let b : firstOf (p .report) ≡ f = p .begins low in
     let c : 1 ≤ length (carried (p .report)) = p .brings low in
@@ -83,7 +87,9 @@ fetched s t i x =
     let e = exchanged s t i x in
     delivered t (e .0 .inv) (x .first) (omega (arith, a .from, i .hold .one)) (omega (arith, a .from, e .1))
 
-pub filled : (s t : State) → Inv s → (n first last : ℕ) (others : List Range) → standing (s .kept) ≡ taken (missing ((first to last) ∷ others)) → Exchanges s n t → last + 1 - first ≤ n → (k : ℕ) → first ≤ k → k ≤ last → Delivered t k
+pub filled : (s t : State) → Inv s → (n first last : ℕ) (others : List Range)
+    → standing (s .kept) ≡ taken (missing ((first to last) ∷ others)) → Exchanges s n t → last + 1 - first ≤ n → (k : ℕ) → first ≤ k
+    → k ≤ last → Delivered t k
 filled s t i n first last others e x h k a b =
     let m = reaches (s .kept) first last others e in
     let c = counted i x in

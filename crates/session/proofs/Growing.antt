@@ -7,7 +7,7 @@ use mathlib.Core.Bool.{Bool, true}
 use native.Mathlib.Omega.{arith}
 use lib.ListN.{length, drop, length-append, length-drop, List·getD-append}
 use lib.Seq.{take-append-le, drop-append-le}
-use Rattle.hearing.specs.Hearing.{Report, topOf}
+use Rattle.reports.specs.Reports.{Report, topOf}
 use Rattle.record.specs.declared.Record.{Record}
 use Rattle.session.proofs.Reports.{firstOf, carried, Genuine, Hold, held-known}
 
@@ -33,7 +33,12 @@ module _ (log : List (List ℕ)) (over : Bool) (log′ : List (List ℕ)) (over�
       record {
         start = h .start;
         inside = omega arith;
-        part = rw (g .same, drop-append-le (firstOf p - 1) log (g .tail) a, take-append-le (length (carried p)) (drop (firstOf p - 1) log) (g .tail) b) (h .part);
+        part = rw (
+          g .same,
+          drop-append-le (firstOf p - 1) log (g .tail) a,
+          take-append-le (length (carried p)) (drop (firstOf p - 1) log)
+              (g .tail) b,
+        ) (h .part);
         final = λ e. still-over (topOf p) (h .final e);
       }
 

@@ -40,9 +40,11 @@ module _ {M : Type 1} (𝓤 : URA M) (H : Heap 𝓤) (A : Atoms 𝓤) (mem : Mem
   by-contract s i = record {
     takeLent = λ datagram room m κs a g x w p h f.
         let c = coded× (kept.the-row .coded) (coded× (codedList codedℕ) (codedList codedℕ)) in
-        let q = by-facts 𝓤 p p (taking-rows.the-row .coded) c (λ t _. (t .answered .answer, λ j. (t .stored j, (t .answered .slots j, t .answered .bytes j)))) f f in
+        let q = by-facts 𝓤 p p (taking-rows.the-row .coded) c
+        (λ t _. (t .answered .answer, λ j. (t .stored j, (t .answered .slots j, t .answered .bytes j)))) f f in
         let k = rw (h .0, h .1, h .2, h .3) at q in
-        delivery-left s i datagram (i .line datagram m) room _ x _ _ _ (record { answer = k .0; bytes = λ j. k .1 j .1 .1; slots = λ j. k .1 j .1 .0 })
+        delivery-left s i datagram (i .line datagram m) room _ x _ _ _
+        (record { answer = k .0; bytes = λ j. k .1 j .1 .1; slots = λ j. k .1 j .1 .0 })
         ((λ j. k .1 j .0) ∙ taken-stored (s .kept) (taking (s .kept) (s .area) datagram room));
     askLent = λ sheet rule elapsed room κs a g x w p h f.
         let q = by-facts 𝓤 p p (asking-rows.the-row .coded) (kept.the-row .coded) (λ t _. (t .answer, t .stored)) f f in

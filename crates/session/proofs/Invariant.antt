@@ -63,7 +63,17 @@ pub record Good (s t : State) : Type 0 where
 
 pub stays-put : (s : State) → Inv s → Good s s
 stays-put s i =
-    record { inv = i; later = record { next = omega arith; top = omega arith; over = λ e. e; log = omega arith; down = λ d m. m; up = λ d m. m } }
+    record {
+      inv = i;
+      later = record {
+        next = omega arith;
+        top = omega arith;
+        over = λ e. e;
+        log = omega arith;
+        down = λ d m. m;
+        up = λ d m. m;
+      };
+    }
 
 pub chain : {s t u : State} → Good s t → Good t u → Good s u
 chain g h =
@@ -98,7 +108,8 @@ opened session kept e =
     let same : kept ≡ fresh (Ufo session) = cc (p .1) in
     (rw same (record { name = session; ufo = refl; lawful = rw (p .0 .0, p .0 .1 .0) }), same)
 
-pub begins : (lent area : List ℕ) (session : Name) (kept : Record) → Bytes lent → areaSize ≤ length area → opening session ≡ taken kept → Inv (begin lent area kept)
+pub begins : (lent area : List ℕ) (session : Name) (kept : Record) → Bytes lent → areaSize ≤ length area → opening session ≡ taken kept
+    → Inv (begin lent area kept)
 begins lent area session kept b l e =
     let o = opened session kept e in
     let h : Hold [] false (fresh (Ufo session)) area [] =

@@ -13,24 +13,24 @@ use Rattle.ufo.specs.Down as ufo
 use Rattle.log.specs.Log.{small}
 use Rattle.lend.specs.Answer.{greatest, from, goes, packed, heartbeatOf, endOf, answerTo}
 use Rattle.lend.proofs.Answering.{Most, most, one-goes}
-use Rattle.hearing.specs.Hearing.{Report, messages, end, ofUfo}
+use Rattle.reports.specs.Reports.{Report, messages, end, ofUfo}
 use Rattle.session.proofs.Reports.{firstOf, carried, Genuine}
 
 -- a packet that gives a genuine report
 pub record Vouched (ms : List (List ℕ)) (over : Bool) (p : ufo.Packet) (report : Report) : Type 0 where
-  pub heard : ofUfo p ≡ taken report
+  pub reports : ofUfo p ≡ taken report
   pub genuine : Genuine ms over report
 
 module _ (ms : List (List ℕ)) (over : Bool) where
   pub beat-vouched : Vouched ms over (heartbeatOf ms) (messages (length ms + 1) [])
   beat-vouched = record {
-    heard = refl;
+    reports = refl;
     genuine = record { start = omega arith; inside = omega arith; part = refl; final = λ x. absurd (false≢true x) };
   }
 
   pub end-vouched : over ≡ true → Vouched ms over (endOf ms) (end (length ms))
   end-vouched e = record {
-    heard = refl;
+    reports = refl;
     genuine = record { start = omega arith; inside = omega arith; part = refl; final = λ _. (e, refl) };
   }
 
@@ -38,7 +38,7 @@ module _ (ms : List (List ℕ)) (over : Bool) where
   piece-vouched f c k a m =
       let e = m .many in
       record {
-        heard = refl;
+        reports = refl;
         genuine = record { start = a; inside = omega (arith, m .there); part = rw e; final = λ x. absurd (false≢true x) };
       }
 
@@ -52,7 +52,8 @@ module _ (ms : List (List ℕ)) (over : Bool) where
   pub answer : (f c : ℕ) → 1 ≤ f → 1 ≤ c → small ms ≡ true → Answer f (answerTo over ms f c)
   unfolding answerTo
   answer f c f₁ c₁ z = by (leb f (length ms)) refl over refl where
-    by : (a : Bool) → leb f (length ms) ≡ a → (b : Bool) → over ≡ b → Answer f (if a then packed ms f c else if b then endOf ms else heartbeatOf ms)
+    by : (a : Bool) → leb f (length ms) ≡ a → (b : Bool) → over ≡ b
+        → Answer f (if a then packed ms f c else if b then endOf ms else heartbeatOf ms)
     by true e b o =
         let low : f ≤ length ms = leb-true f (length ms) e in
         let m = most ms f f₁ low c in

@@ -1,4 +1,4 @@
-pub mod Pieces
+pub mod Stretches
 pub mod Reports
 pub mod Growing
 pub mod Lending
@@ -7,7 +7,7 @@ pub mod Line
 pub mod Logins
 pub mod Recording
 pub mod Invariant
-pub mod Steps
+pub mod EveryStep
 pub mod Deliveries
 pub mod Standing
 pub mod Fetching

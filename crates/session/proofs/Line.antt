@@ -15,7 +15,7 @@ use Rattle.lend.specs.Answer.{answerTo, answerable, answerReply, heartbeatReply
 use Rattle.log.specs.declared.Log.{Log}
 use Rattle.log.proofs.Hanging.{hanging}
 use Rattle.lend.proofs.Given.{Gives, answered, beaten, ended}
-use Rattle.hearing.specs.Hearing.{Report}
+use Rattle.reports.specs.Reports.{Report}
 use Rattle.session.proofs.Lending.{Vouched, beat-vouched, end-vouched, Answer, answer}
 use Rattle.session.proofs.Logs.{Hung}
 
@@ -51,7 +51,8 @@ module _ (l : Log) (s : List ℕ) (h : Hung l s) (room : ℕ) (d : List ℕ) whe
     answer-wrote = record { packet = _; gives = answer-gives; report = answers .report; vouched = answers .vouched }
 
 -- a request whose numbers are not 0 is answered
-pub answered-so : (l : Log) (s : List ℕ) (h : Hung l s) (f c room : ℕ) → 1 ≤ f → 1 ≤ c → 1472 ≤ room → answerReply l s f c room ≡ taken (ufo.write (answerTo (l .ended) (messagesIn l s) f c))
+pub answered-so : (l : Log) (s : List ℕ) (h : Hung l s) (f c room : ℕ) → 1 ≤ f → 1 ≤ c → 1472 ≤ room
+    → answerReply l s f c room ≡ taken (ufo.write (answerTo (l .ended) (messagesIn l s) f c))
 unfolding answerReply
 answered-so l s h f c room f₁ c₁ r = rw (h .whole, ne-eqb f 0 (omega arith), ne-eqb c 0 (omega arith), le-leb 1472 room r)
 

@@ -18,7 +18,7 @@ use Rattle.ufo.specs.Down as ufo
 use Rattle.ufo.proofs.DownLaid.{ofAccept, ofReject, laid-accept, laid-reject}
 use Rattle.ufo_write.specs.WriteDown.{acceptReply, rejectReply}
 use Rattle.ufo_write.proofs.DownReplies.{accept-reply, reject-reply}
-use Rattle.hearing.specs.Hearing.{Report, ofUfo, hear}
+use Rattle.reports.specs.Reports.{Report, ofUfo, reportOf}
 use Rattle.held.specs.Hanging.{sound}
 use Rattle.record.specs.Record.{hangs}
 use Rattle.record.specs.declared.Record.{Record}
@@ -34,7 +34,8 @@ accept-answers session next room d e =
     let p = all-passed (ofAccept name next) (within room (ufo.write packet)) d (sym (accept-reply name next room ten) ∙ e) in
     let low = leb-true next 4294967295 (p .0 .1 .1 .1 .0) in
     let same : ufo.write packet ≡ d = within-taken room (ufo.write packet) d (p .1) in
-    accepted name next (ap ufo.read (sym same) ∙ laid-accept name next ten (omega arith) ∙ passed-all (ofAccept name next) (taken packet) (p .0))
+    accepted name next (ap ufo.read (sym same) ∙ laid-accept name next ten (omega arith) ∙ passed-all (ofAccept name next) (taken packet)
+    (p .0))
 
 pub reject-answers : (reason room : ℕ) (d : List ℕ) → rejectReply reason room ≡ taken d → LoginAnswer d
 reject-answers reason room d e =
@@ -48,9 +49,11 @@ no-report d (accepted session next e) = rw e
 no-report d (rejected reason e) = rw e
 
 -- nothing that is reported is one
-pub reports-none : {C : Type 0} (d : List ℕ) (p : ufo.Packet) (report : Report) → LoginAnswer d → ufo.read d ≡ taken p → ofUfo p ≡ taken report → C
+pub reports-none : {C : Type 0} (d : List ℕ) (p : ufo.Packet) (report : Report) → LoginAnswer d → ufo.read d ≡ taken p
+    → ofUfo p ≡ taken report → C
 reports-none d p report l e f = not-both (ufo.read d into ofUfo) 16 report (no-report d l) (rw e f)
 
-pub refuses-login : (r : Record) (area : List ℕ) (name : Name) → r .session ≡ Ufo name → hangs r ≡ true → sound (r .held) area ≡ true → (d : List ℕ) → LoginAnswer d → (room : ℕ) → taking r area d room ≡ refused 16
-unfolding taking hear
+pub refuses-login : (r : Record) (area : List ℕ) (name : Name) → r .session ≡ Ufo name → hangs r ≡ true → sound (r .held) area ≡ true
+    → (d : List ℕ) → LoginAnswer d → (room : ℕ) → taking r area d room ≡ refused 16
+unfolding taking reportOf
 refuses-login r area name u h s d l room = rw (h, s, u, no-report d l)

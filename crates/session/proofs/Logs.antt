@@ -27,7 +27,8 @@ pub record Leaves (l : Log) (s : List ℕ) (k : Kept) : Type 0 where
   pub grows : Grows (messagesIn l s) (l .ended) (messagesIn (k .log) (k .bytes)) (k .log .ended)
 
 -- blocks of bytes are messages of bytes
-many-bytes : (f : List ℕ) → Bytes f → isWhole (toTheEnd f) ≡ true → Each Short (messagesOf (toTheEnd f)) → Each Bytes (messagesOf (toTheEnd f))
+many-bytes : (f : List ℕ) → Bytes f → isWhole (toTheEnd f) ≡ true → Each Short (messagesOf (toTheEnd f))
+    → Each Bytes (messagesOf (toTheEnd f))
 many-bytes f b w z =
     let ms : List (List ℕ) = messagesOf (toTheEnd f) in
     let same : frames ms ≡ f = frames-all f ms b (whole-is (toTheEnd f) w) in

@@ -13,12 +13,12 @@ use Rattle.blocks.proofs.Frames.{frames-none}
 use Rattle.ufo.specs.Down as ufo
 use Rattle.ufo.proofs.DownLaid.{length-laid}
 use Rattle.record.specs.Record.{lawful, hangs}
-use Rattle.hearing.specs.Hearing.{Report, ofUfo, hear}
+use Rattle.reports.specs.Reports.{Report, ofUfo, reportOf}
 use Rattle.taking.specs.Taking.{delivered, Taking, outcome, reporting, taking}
 use Rattle.record.specs.declared.Record.{Record}
 use Rattle.record.specs.declared.Session.the-variants.{Ufo}
 use Rattle.record.proofs.Hanging.{hangs-so}
-use Rattle.hearing.proofs.Hearing.{hears-ufo}
+use Rattle.reports.proofs.Reports.{reports-ufo}
 use Rattle.taking.proofs.Reports.{reported, reports}
 use Rattle.session.specs.Session.{enough}
 use Rattle.session.proofs.Reports.{carried, Hold, Brings, brings}
@@ -41,26 +41,34 @@ slim (ufo.reject reason) f = omega (arith, frames-none)
 slim (ufo.messages first ms) f = omega (arith, f .size, length-laid first (length ms) (frames ms))
 slim (ufo.end total) f = omega (arith, frames-none)
 
-module _ (ms : List (List ℕ)) (over : Bool) (few : length ms ≤ 2 ^ 32 - 2) (r : Record) (area : List ℕ) (got : List (List ℕ)) (n : Named r) (h : Hold ms over r area got) where
+module _ (ms : List (List ℕ)) (over : Bool) (few : length ms ≤ 2 ^ 32 - 2) (r : Record) (area : List ℕ) (got : List (List ℕ)) (n : Named r)
+    (h : Hold ms over r area got) where
   pub hung : hangs r ≡ true
   hung =
-      hangs-so r (record { begun = h .one; near = omega (arith, h .near); old = h .old; bound = rw (n .ufo) (omega (arith, h .known)); named = n .lawful; placed = h .placed })
+      hangs-so r (record {
+        begun = h .one;
+        near = omega (arith, h .near);
+        old = h .old;
+        bound = rw (n .ufo) (omega (arith, h .known));
+        named = n .lawful;
+        placed = h .placed;
+      })
 
   module _ (d : List ℕ) (w : Wrote ms over d) where
-    heard : hear (r .session) d ≡ taken (w .report)
-    heard = rw (n .ufo, w .gives .bytes) (hears-ufo (n .name) (w .packet) (w .gives .fit) ∙ w .vouched .heard)
+    as-reported : reportOf (r .session) d ≡ taken (w .report)
+    as-reported = rw (n .ufo, w .gives .bytes) (reports-ufo (n .name) (w .packet) (w .gives .fit) ∙ w .vouched .reports)
 
     pub brought : Brings ms over r area got (w .report)
     brought = brings ms over r area got (w .report) hung h (w .vouched .genuine)
 
     taken-as : (room : ℕ) → taking r area d room ≡ reporting r area room (w .report)
     unfolding taking
-    taken-as room = rw (hung, h .sound, heard)
+    taken-as room = rw (hung, h .sound, as-reported)
 
     -- a packet's blocks, and all that can be held
     pub fits : length (frames (delivered r area (w .report))) ≤ 47097
     fits =
-        let s : length (frames (carried (w .report))) ≤ 1465 = rw (w .vouched .heard) at (slim (w .packet) (w .gives .fit)) in
+        let s : length (frames (carried (w .report))) ≤ 1465 = rw (w .vouched .reports) at (slim (w .packet) (w .gives .fit)) in
         omega (arith, brought .lean)
 
     pub takes : (room : ℕ) → enough ≤ room → taking r area d room ≡ taken (outcome r area (w .report))

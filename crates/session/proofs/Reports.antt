@@ -22,12 +22,12 @@ use Rattle.held.proofs.Releases.{released-lean}
 use Rattle.missing.specs.Missing.{isHeld}
 use Rattle.record.specs.Record.{hangs}
 use Rattle.record.specs.declared.Record.{Record}
-use Rattle.hearing.specs.Hearing.{Report, messages, news, end, topOf, isEnd}
+use Rattle.reports.specs.Reports.{Report, messages, news, end, topOf, isEnd}
 use Rattle.taking.specs.Taking.{contradicts, own, delivered, holding, after}
 use Rattle.taking.proofs.Reports.{lies, among, delivers-many}
 use Rattle.taking.proofs.Kept.{near-after, placed-after, kept-sound}
 use Rattle.taking.proofs.Numbered.{is-held, Holds, Came, brought, was-held, by-number, holds-as-number}
-use Rattle.session.proofs.Pieces.{joined}
+use Rattle.session.proofs.Stretches.{joined}
 
 -- the number of a report's first message; of a report with none, the next to be published
 abbrev pub firstOf : Report → ℕ
@@ -60,7 +60,8 @@ pub record Hold (log : List (List ℕ)) (over : Bool) (r : Record) (area : List 
   pub sent : (n : ℕ) → isHeld (r .held) (r .next .0) n ≡ true → heldMessage area n ≡ getD log (n - 1) []
 
 -- what is held is a number of the log
-pub held-known : (log : List (List ℕ)) (over : Bool) (r : Record) (area : List ℕ) (got : List (List ℕ)) → Hold log over r area got → (n : ℕ) → isHeld (r .held) (r .next .0) n ≡ true → (1 ≤ n) × (n ≤ length log)
+pub held-known : (log : List (List ℕ)) (over : Bool) (r : Record) (area : List ℕ) (got : List (List ℕ)) → Hold log over r area got → (n : ℕ)
+    → isHeld (r .held) (r .next .0) n ≡ true → (1 ≤ n) × (n ≤ length log)
 held-known log over r area got h n e =
     let k = is-held (r .held) (r .next .0) n e in
     let a = k .past in
@@ -84,7 +85,8 @@ flags false true a b p q = rw (le-leb b a (q refl))
 flags false false a b p q = refl
 
 -- the message number i of a genuine report is the log's
-carried-at : (log : List (List ℕ)) (over : Bool) (p : Report) → Genuine log over p → (i : ℕ) (m : List ℕ) → Holds p i m → m ≡ getD log (i - 1) []
+carried-at : (log : List (List ℕ)) (over : Bool) (p : Report) → Genuine log over p → (i : ℕ) (m : List ℕ) → Holds p i m
+    → m ≡ getD log (i - 1) []
 carried-at log over (messages first ms) g i m q =
     let a = q .0 in
     let b = q .1 in
@@ -125,11 +127,13 @@ pub record Brings (log : List (List ℕ)) (over : Bool) (r : Record) (area : Lis
   pub past : firstOf p ≤ r .next .0 → firstOf p + length (carried p) ≤ r .next .0 + length (delivered r area p)
   pub lean : length (frames (delivered r area p)) ≤ length (frames (carried p)) + 45632
 
-module _ (log : List (List ℕ)) (over : Bool) (r : Record) (area : List ℕ) (got : List (List ℕ)) (p : Report) (whole : hangs r ≡ true) (h : Hold log over r area got) (g : Genuine log over p) where
+module _ (log : List (List ℕ)) (over : Bool) (r : Record) (area : List ℕ) (got : List (List ℕ)) (p : Report) (whole : hangs r ≡ true)
+    (h : Hold log over r area got) (g : Genuine log over p) where
   fair : contradicts r p ≡ false
   fair =
       let t = top-is p (g .start) in
-      flags (r .ended) (isEnd p) (topOf p) (r .top .0) (λ e. omega (arith, h .final e .1, g .inside)) (λ e. omega (arith, g .final e .1, h .known))
+      flags (r .ended) (isEnd p) (topOf p) (r .top .0) (λ e. omega (arith, h .final e .1, g .inside))
+      (λ e. omega (arith, g .final e .1, h .known))
 
   told-final : r .ended || isEnd p ≡ true → (over ≡ true) × (max (r .top .0) (topOf p) ≡ length log)
   told-final e = by (either (r .ended) (isEnd p) e) where
@@ -178,6 +182,7 @@ module _ (log : List (List ℕ)) (over : Bool) (r : Record) (area : List ℕ) (g
     lean =
         let ms : List (List ℕ) = own (r .next .0) p in
         let held = freedFrom (length ms) (r .held) (r .next .0) in
-        let l = released-lean held area (r .next .0 + length ms) (freed-fits (r .held) area (length ms) (r .next .0) (sound-fits (r .held) area (h .sound))) in
+        let l = released-lean held area (r .next .0 + length ms)
+        (freed-fits (r .held) area (length ms) (r .next .0) (sound-fits (r .held) area (h .sound))) in
         rw (frames-append ms (released held area (r .next .0 + length ms)), length-append) (omega (arith, own-lean (r .next .0) p));
   }

@@ -29,16 +29,18 @@ use Rattle.record.specs.Standing.{missing, standing}
 use Rattle.asking.specs.Asking.{request as wanted, askedNow, requestOf, asking}
 use Rattle.asking.proofs.Asks.{asks-now}
 use Rattle.record.proofs.Complete.{standing-means}
-use Rattle.session.specs.Session.{enough, State, logged, serves, takes, asks, sent, toMessage, toEach, toPacket, step, Run, stop, then}
+use Rattle.session.specs.Session.{enough, State, logged, serves, takes, asks, sent, toMessage, toEach, toPacket, step, Run, stop}
+use Rattle.session.specs.Session.{then}
 use Rattle.session.specs.Promise.{Due, made, Asked, Answered, Exchange, Under}
 use Rattle.session.proofs.Line.{answered-so}
 use Rattle.session.proofs.Invariant.{Inv, Good}
-use Rattle.session.proofs.Steps.{hung-record, good, along}
+use Rattle.session.proofs.EveryStep.{hung-record, good, along}
 use Rattle.session.proofs.Standing.{reaches}
 use Rattle.session.proofs.Fetching.{due-asks}
 
 -- something is missing: a request for the first range of it is due, unless one was made from there and the wait is not over
-module _ (s : State) (i : Inv s) (first last : ℕ) (others : List Range) (e : standing (s .kept) ≡ taken (missing ((first to last) ∷ others))) (sheet : Sheet) (rule : Patience) (elapsed : Float) (late : Bool)
+module _ (s : State) (i : Inv s) (first last : ℕ) (others : List Range)
+    (e : standing (s .kept) ≡ taken (missing ((first to last) ∷ others))) (sheet : Sheet) (rule : Patience) (elapsed : Float) (late : Bool)
     (v : waitOver sheet rule elapsed ≡ taken late) (d : ((s .kept .asked .0 ≡ first) → ⊥) ⊎ (late ≡ true)) where
   pub wish-so : asking (s .kept) sheet rule elapsed ≡ taken (wanted first (min (last - first + 1) 65535) (askedNow (s .kept)))
   unfolding requestOf
@@ -52,13 +54,15 @@ module _ (s : State) (i : Inv s) (first last : ℕ) (others : List Range) (e : s
   due-so = record { sheet = sheet; rule = rule; elapsed = elapsed; after = askedNow (s .kept); wish = wish-so }
 
 -- an answer to one of a packet's requests is among the answers to the packet
-in-turn : (u : State) (room first count : ℕ) (d : List ℕ) → answerReply (u .log) (u .lent) first count room ≡ taken d → (ms : List Message) → List·Memᴰ (request first count) ms → List·Memᴰ d (toEach u room ms)
+in-turn : (u : State) (room first count : ℕ) (d : List ℕ) → answerReply (u .log) (u .lent) first count room ≡ taken d → (ms : List Message)
+    → List·Memᴰ (request first count) ms → List·Memᴰ d (toEach u room ms)
 unfolding sent
 in-turn u room first count d e ms (List·Memᴰ·head {x = m} {xs = others} q) =
     let a : toMessage u room (request first count) ≡ d ∷ [] = rw e in
     let b : List·Memᴰ d (toMessage u room m) = rw (← q, a) (List·Memᴰ·head refl) in
     Memᴰ·append-left (toEach u room others) b
-in-turn u room first count d e ms (List·Memᴰ·tail {x = m} {xs = others} q) = Memᴰ·append-right (toMessage u room m) (in-turn u room first count d e others q)
+in-turn u room first count d e ms (List·Memᴰ·tail {x = m} {xs = others} q) = Memᴰ·append-right (toMessage u room m)
+    (in-turn u room first count d e others q)
 
 module _ (s u : State) (i : Inv s) (first count : ℕ) (due : Due s first count) (roomUp : ℕ) (r : Run (made s due roomUp) u) where
   g : Good (made s due roomUp) u
@@ -74,20 +78,24 @@ module _ (s u : State) (i : Inv s) (first count : ℕ) (due : Due s first count)
   unfolding sent
   asked e =
       let d : List ℕ = frame (writeMessage (request first count)) in
-      let z : length d ≤ roomUp = omega (arith, length-frame (writeMessage (request first count)), length-message (request first count) fit) in
+      let z : length d ≤ roomUp = omega (arith, length-frame (writeMessage (request first count)), length-message (request first count) fit)
+      in
       let l : reply (request first count) roomUp ≡ taken d = reply-fit (request first count) roomUp fit ∙ enough-room d roomUp z in
       let m : List·Memᴰ d (made s due roomUp .up) = rw (due .wish, l) (Memᴰ·append-right (s .up) (List·Memᴰ·head refl)) in
       record { datagram = d; room = roomUp; laid = l; sent = g .later .up d m; reads = read-one (request first count) fit }
 
-  pub answered : (datagram : List ℕ) (ms : List Message) (room : ℕ) → readUp datagram ≡ taken ms → List·Memᴰ (request first count) ms → 1472 ≤ room → Answered u datagram first count room
+  pub answered : (datagram : List ℕ) (ms : List Message) (room : ℕ) → readUp datagram ≡ taken ms → List·Memᴰ (request first count) ms
+      → 1472 ≤ room → Answered u datagram first count room
   unfolding toPacket
   answered datagram ms room e m h =
       let d : List ℕ = ufo.write (answerTo (u .log .ended) (logged u) first count) in
-      let l : answerReply (u .log) (u .lent) first count room ≡ taken d = answered-so (u .log) (u .lent) (g .inv .hung) first count room (fit .0) (fit .2) h in
+      let l : answerReply (u .log) (u .lent) first count room ≡ taken d = answered-so (u .log) (u .lent) (g .inv .hung) first count room
+      (fit .0) (fit .2) h in
       record { answer = d; laid = l; sent = rw e (Memᴰ·append-right (u .down) (in-turn u room first count d l ms m)) }
 
 -- where the line carries the request and its answer, the exchange is had
-pub exchange : (s : State) → Inv s → (first count : ℕ) (due : Due s first count) → (t : State) × (x : Exchange s t) × Under (due .sheet) (due .rule) (due .elapsed) x
+pub exchange : (s : State) → Inv s → (first count : ℕ) (due : Due s first count) → (t : State) × (x : Exchange s t)
+    × Under (due .sheet) (due .rule) (due .elapsed) x
 exchange s i first count due =
     let u : State = made s due 1472 in
     let a : Asked u first count = asked s u i first count due 1472 stop (omega arith) in

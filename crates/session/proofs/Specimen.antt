@@ -41,16 +41,19 @@ use Rattle.record.specs.Record.{hangs, fresh}
 use Rattle.record.specs.Standing.{complete, missing, standing}
 use Rattle.record.specs.declared.Record.{Record}
 use Rattle.record.specs.declared.Session.the-variants.{Ufo}
-use Rattle.hearing.specs.Hearing.{hear}
+use Rattle.reports.specs.Reports.{reportOf}
 use Rattle.taking.specs.Taking.{reporting, taking}
 use Rattle.taking.proofs.Kept.{taking-sound}
 use Rattle.asking.specs.Asking.{request as wanted, requestOf, wish, asking}
-use Rattle.session.specs.Session.{enough, State, logged, begin, addsMany, declares, ends, answers, accepts, serves, takes, sent, toPacket, delivering, step, Run, stop, then, Reached}
+use Rattle.session.specs.Session.{enough, State, logged, begin, addsMany, declares, ends, answers, accepts, serves, takes, sent}
+use Rattle.session.specs.Session.{toPacket, delivering, step, Run, stop, then, Reached}
 use Rattle.session.specs.Promise.{holds, Due, made, Exchange}
 
 -- what is unfolded to work it out
 worked-out : Unit {0}
-unfolding be bytesOf letterOrDigit blank textThenSpaces frames cut cutFull read readA readS readE readUp readEach readMessage readT reply verdict log.small log.hangs log.cutAll log.addingMany log.declaring greatest answerTo answerReply endPacketReply acceptReply freedFrom every inPlace holdOne holdAll run heldFrom lists.ranges lists.missing hangs hear reporting taking standing sent toPacket
+unfolding be bytesOf letterOrDigit blank textThenSpaces frames cut cutFull read readA readS readE readUp readEach readMessage readT reply
+    verdict log.small log.hangs log.cutAll log.addingMany log.declaring greatest answerTo answerReply endPacketReply acceptReply freedFrom
+    every inPlace holdOne holdAll run heldFrom lists.ranges lists.missing hangs reportOf reporting taking standing sent toPacket
 worked-out = tt
 
 -- a list of numbers is one of bytes, by a test
@@ -182,26 +185,31 @@ module _ (area : List ℕ) (slots : areaSize ≤ length area) where
   unfolding worked-out
   of-welcome = rw (none-sound area slots)
 
-  of-three : taking (fresh (Ufo session)) area three enough ≡ taken (record { delivered = []; after = keeping 1 3 false 0 8; area = stored area })
+  of-three : taking (fresh (Ufo session)) area three enough ≡ taken
+      (record { delivered = []; after = keeping 1 3 false 0 8; area = stored area })
   unfolding worked-out
   of-three = rw (none-sound area slots, le-leb areaSize (length area) slots)
 
   stored-sound : sound 8 (stored area) ≡ true
   stored-sound = taking-sound (fresh (Ufo session)) area three enough _ of-three
 
-  of-one : taking (keeping 1 3 false 0 8) (stored area) one enough ≡ taken (record { delivered = hi ∷ []; after = keeping 2 3 false 0 8; area = stored area })
+  of-one : taking (keeping 1 3 false 0 8) (stored area) one enough ≡ taken
+      (record { delivered = hi ∷ []; after = keeping 2 3 false 0 8; area = stored area })
   unfolding worked-out
   of-one = rw stored-sound
 
-  of-one-again : taking (keeping 2 3 false 0 8) (stored area) one enough ≡ taken (record { delivered = []; after = keeping 2 3 false 0 8; area = stored area })
+  of-one-again : taking (keeping 2 3 false 0 8) (stored area) one enough ≡ taken
+      (record { delivered = []; after = keeping 2 3 false 0 8; area = stored area })
   unfolding worked-out
   of-one-again = rw stored-sound
 
-  of-over : taking (keeping 2 3 false 0 8) (stored area) over enough ≡ taken (record { delivered = []; after = keeping 2 3 true 0 8; area = stored area })
+  of-over : taking (keeping 2 3 false 0 8) (stored area) over enough ≡ taken
+      (record { delivered = []; after = keeping 2 3 true 0 8; area = stored area })
   unfolding worked-out
   of-over = rw stored-sound
 
-  of-two : taking (keeping 2 3 true 2 8) (stored area) two enough ≡ taken (record { delivered = [] ∷ ok ∷ []; after = keeping 4 3 true 2 0; area = stored area })
+  of-two : taking (keeping 2 3 true 2 8) (stored area) two enough ≡ taken
+      (record { delivered = [] ∷ ok ∷ []; after = keeping 4 3 true 2 0; area = stored area })
   unfolding worked-out
   of-two = rw (stored-sound, stored-message area ok 3 (omega arith) slots)
 
@@ -216,11 +224,13 @@ module _ (area : List ℕ) (slots : areaSize ≤ length area) where
   unfolding begun greeted
   not-for-it = ap (delivering greeted) of-welcome
 
-  logs-three : step (step (step (step greeted (addsMany blocks)) (answers 1 1 1472)) (answers 2 1 1472)) (answers 3 1 1472) ≡ state false (fresh (Ufo session)) area [] sent-all []
+  logs-three : step (step (step (step greeted (addsMany blocks)) (answers 1 1 1472)) (answers 2 1 1472)) (answers 3 1 1472) ≡ state false
+      (fresh (Ufo session)) area [] sent-all []
   unfolding worked-out begun greeted
   logs-three = refl
 
-  ends-it : step (step (state false (keeping 2 3 false 0 8) (stored area) (hi ∷ []) sent-all []) declares) (ends 1472) ≡ state true (keeping 2 3 false 0 8) (stored area) (hi ∷ []) with-end []
+  ends-it : step (step (state false (keeping 2 3 false 0 8) (stored area) (hi ∷ []) sent-all []) declares) (ends 1472) ≡ state true
+      (keeping 2 3 false 0 8) (stored area) (hi ∷ []) with-end []
   unfolding worked-out
   ends-it = refl
 
@@ -234,13 +244,19 @@ module _ (area : List ℕ) (slots : areaSize ≤ length area) where
 
   r₂ : Run begun (state false (fresh (Ufo session)) area [] sent-all [])
   r₂ =
-      on (then (then (then (then r₁ (addsMany blocks) (bytes-so blocks refl)) (answers 1 1 1472) tt) (answers 2 1 1472) tt) (answers 3 1 1472) tt) logs-three
+      on (then (then (then (then r₁ (addsMany blocks) (bytes-so blocks refl)) (answers 1 1 1472) tt) (answers 2 1 1472) tt)
+      (answers 3 1 1472) tt) logs-three
 
   r₃ : Run begun (state false (keeping 2 3 false 0 8) (stored area) (hi ∷ []) sent-all [])
   r₃ =
-      let first : Run begun (state false (keeping 1 3 false 0 8) (stored area) [] sent-all []) = on (then r₂ (takes three enough) (there (there (there (here refl))))) (ap (delivering (state false (fresh (Ufo session)) area [] sent-all [])) of-three) in
-      let second : Run begun (state false (keeping 2 3 false 0 8) (stored area) (hi ∷ []) sent-all []) = on (then first (takes one enough) (there (here refl))) (ap (delivering (state false (keeping 1 3 false 0 8) (stored area) [] sent-all [])) of-one) in
-      on (then second (takes one enough) (there (here refl))) (ap (delivering (state false (keeping 2 3 false 0 8) (stored area) (hi ∷ []) sent-all [])) of-one-again)
+      let first : Run begun (state false (keeping 1 3 false 0 8) (stored area) [] sent-all []) =
+      on (then r₂ (takes three enough) (there (there (there (here refl)))))
+      (ap (delivering (state false (fresh (Ufo session)) area [] sent-all [])) of-three) in
+      let second : Run begun (state false (keeping 2 3 false 0 8) (stored area) (hi ∷ []) sent-all []) =
+      on (then first (takes one enough) (there (here refl)))
+      (ap (delivering (state false (keeping 1 3 false 0 8) (stored area) [] sent-all [])) of-one) in
+      on (then second (takes one enough) (there (here refl)))
+      (ap (delivering (state false (keeping 2 3 false 0 8) (stored area) (hi ∷ []) sent-all [])) of-one-again)
 
   r₄ : Run begun (state true (keeping 2 3 false 0 8) (stored area) (hi ∷ []) with-end [])
   r₄ = on (then (then r₃ declares tt) (ends 1472) tt) ends-it
@@ -256,11 +272,13 @@ module _ (area : List ℕ) (slots : areaSize ≤ length area) where
     kept = fresh (Ufo session);
     opened = refl;
     run =
-        on (then r₄ (takes over enough) (there (there (there (there (here refl)))))) (ap (delivering (state true (keeping 2 3 false 0 8) (stored area) (hi ∷ []) with-end [])) of-over);
+        on (then r₄ (takes over enough) (there (there (there (there (here refl))))))
+        (ap (delivering (state true (keeping 2 3 false 0 8) (stored area) (hi ∷ []) with-end [])) of-over);
   }
 
   -- message 2 is missing, and message 3 is held
-  pub lacking : (standing (s area .kept) ≡ taken (missing ((2 to 2) ∷ []))) × (holds (s area) 3 ≡ true) × (heldMessage (s area .area) 3 ≡ ok)
+  pub lacking : (standing (s area .kept) ≡ taken (missing ((2 to 2) ∷ []))) × (holds (s area) 3 ≡ true)
+      × (heldMessage (s area .area) 3 ≡ ok)
   unfolding worked-out
   lacking = (refl, refl, stored-message area ok 3 (omega arith) slots)
 

@@ -1,5 +1,5 @@
--- How a record stands that tells nothing false of its log: missing is what of N to T is not held, N first, and complete is said only with the
--- whole log.
+-- How a record stands that tells nothing false of its log: missing is what of N to T is not held, N first, and complete is said only with
+-- the whole log.
 -- Assumes nothing.
 use Prim.Native.Nat.{ℕ, _+_, _-_, _≤_}
 use mathlib.Core.List.{List, [], _∷_}
@@ -22,7 +22,7 @@ use Rattle.record.proofs.Complete.{missing-if, complete-if, standing-means}
 use Rattle.session.specs.Session.{State, logged}
 use Rattle.session.specs.Promise.{Names, Outcome, whole, lacks}
 use Rattle.session.proofs.Invariant.{Inv}
-use Rattle.session.proofs.Steps.{hung-record}
+use Rattle.session.proofs.EveryStep.{hung-record}
 use Rattle.session.proofs.Deliveries.{length-deliveries}
 
 -- a number lies within the ranges that name it

@@ -55,7 +55,8 @@ use Rattle.asking.proofs.ask.Kinds as ask
 use Rattle.asking.proofs.ask.Reads as ask-reads
 use Rattle.ufo_up_write.proofs.write_request.Kinds as write-request
 use Rattle.ufo_up_write.proofs.write_request.Reads as write-request-reads
-use Rattle.session.specs.Session.{State, adds, addsMany, declares, beats, ends, answers, accepts, rejects, serves, takes, asks, Allowed, sending, saying, step}
+use Rattle.session.specs.Session.{State, adds, addsMany, declares, beats, ends, answers, accepts, rejects, serves, takes, asks}
+use Rattle.session.specs.Session.{Allowed, sending, saying, step}
 
 -- What an entry's contract leaves its caller with: where the arguments a are as `given`, whatever answer x the contract ensures, with
 -- whatever the arguments may be at exit, e, comes to `left`. Both a and e stand in the order of the parameters.
@@ -87,7 +88,15 @@ handed (took.Took bytes messages after) left = messagesOf (cut messages (take by
 -- these are delivered, and the record is kept, and the area as it was left
 abbrev pub withTaken : State → Taken → List ℕ → List ℕ → Record → State
 withTaken s r area left kept =
-    record { log = s .log; lent = s .lent; kept = kept; area = area; deliveries = s .deliveries ++ handed r left; down = s .down; up = s .up }
+    record {
+      log = s .log;
+      lent = s .lent;
+      kept = kept;
+      area = area;
+      deliveries = s .deliveries ++ handed r left;
+      down = s .down;
+      up = s .up;
+    }
 
 -- which record is kept: the one in the answer, if there is one
 abbrev pub onceTaken : Record → Taken → Record
@@ -114,7 +123,8 @@ LeavesAsked room (asked.Request first count after) left =
 abbrev pub LeavesAnswered : State → ℕ → Sequence → ℕ → (List (List ℕ) → Type 0) → Type 0
 LeavesAnswered s room first count left =
     Leaves 2 answer.ps answer.r answer-reads.Post
-    (λ κs a. (a .0 ≡ s .log) × (now (a .1 .0) ≡ s .lent) × (a .1 .1 .0 ≡ first) × (a .1 .1 .1 .0 ≡ count) × (length (now (a .1 .1 .1 .1 .0)) ≡ room))
+    (λ κs a. (a .0 ≡ s .log) × (now (a .1 .0) ≡ s .lent) × (a .1 .1 .0 ≡ first) × (a .1 .1 .1 .0 ≡ count)
+    × (length (now (a .1 .1 .1 .1 .0)) ≡ room))
     (λ κs x e. left (written x (now (e .1 .1 .1 .1 .0))))
 
 -- A server that is handed a datagram reads it as a packet, then message by message, each at the place where the one before it ends,
@@ -156,7 +166,8 @@ pub record ByContract (s : State) : Type 0 where
   pub endPacket : (room : ℕ) → Leaves 2 end-packet.ps end-packet.r end-packet-reads.Post
       (λ κs a. (a .0 ≡ s .log) × (now (a .1 .0) ≡ s .lent) × (length (now (a .1 .1 .0)) ≡ room))
       (λ κs x e. sending s (written x (now (e .1 .1 .0))) ≡ step s (ends room))
-  pub answer : (first : Sequence) (count room : ℕ) → LeavesAnswered s room first count (λ answer. sending s answer ≡ step s (answers (first .0) count room))
+  pub answer : (first : Sequence) (count room : ℕ)
+      → LeavesAnswered s room first count (λ answer. sending s answer ≡ step s (answers (first .0) count room))
   pub accept : (session : Name) (next room : ℕ) → Leaves 1 write-accept.ps write-accept.r write-accept-reads.Post
       (λ κs a. (a .0 ≡ session) × (a .1 .0 .0 ≡ next) × (length (now (a .1 .1 .0)) ≡ room))
       (λ κs x e. sending s (written x (now (e .1 .1 .0))) ≡ step s (accepts session next room))

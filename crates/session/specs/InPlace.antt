@@ -32,7 +32,8 @@ abbrev pub LeavesLent : {M : Type 1} (𝓤 : URA M) (T : Ended)
     → ((κs : Lfts (T .signature .lifetimes)) → Res (T .signature) κs → AtExit T κs → Type 0)
     → Type 1
 LeavesLent {M} 𝓤 T says given left =
-    (κs : Lfts (T .signature .lifetimes)) (a : Args (T .signature) κs) (g : says κs a .ghost) (x : Res (T .signature) κs) (w : Lasts T κs a) (p : M)
+    (κs : Lfts (T .signature .lifetimes)) (a : Args (T .signature) κs) (g : says κs a .ghost) (x : Res (T .signature) κs) (w : Lasts T κs a)
+    (p : M)
     → given κs a
     → says κs a .ensures g x (atExit T κs a w) .holds p
     → left κs x (atExit T κs a w)
@@ -40,9 +41,11 @@ LeavesLent {M} 𝓤 T says given left =
 module _ {M : Type 1} (𝓤 : URA M) (H : Heap 𝓤) (A : Atoms 𝓤) (mem : Memory → SProp 𝓤) (run : Routine → Fun 𝓤) where
   -- the record that lies there in the end is the step's
   pub record ByContractInPlace (s : State) : Type 1 where
-    pub takeLent : (datagram : List ℕ) (room : ℕ) → Allowed s (takes datagram room) → LeavesLent 𝓤 take-lent.ended (take-lent.clauses 𝓤 H A mem run)
+    pub takeLent : (datagram : List ℕ) (room : ℕ) → Allowed s (takes datagram room)
+        → LeavesLent 𝓤 take-lent.ended (take-lent.clauses 𝓤 H A mem run)
         (λ κs a. (now (a .0) ≡ s .kept) × (now (a .1 .0) ≡ s .area) × (now (a .1 .1 .0) ≡ datagram) × (length (now (a .1 .1 .1 .0)) ≡ room))
         (λ κs x e. withTaken s x (now (e .1 .0)) (now (e .1 .1 .1 .0)) (now (e .0)) ≡ step s (takes datagram room))
-    pub askLent : (sheet : Sheet) (rule : Patience) (elapsed : Float) (room : ℕ) → LeavesLent 𝓤 ask-lent.ended (ask-lent.clauses 𝓤 H A mem run)
+    pub askLent : (sheet : Sheet) (rule : Patience) (elapsed : Float) (room : ℕ)
+        → LeavesLent 𝓤 ask-lent.ended (ask-lent.clauses 𝓤 H A mem run)
         (λ κs a. (now (a .0) ≡ s .kept) × (a .1 .0 ≡ sheet) × (a .1 .1 .0 ≡ rule) × (a .1 .1 .1 .0 ≡ elapsed))
         (λ κs x e. LeavesAsked room x (λ said. saying s (now (e .0)) said ≡ step s (asks sheet rule elapsed room)))

@@ -1,4 +1,5 @@
--- A blank number is never nought, and a blank user is nobody: a packet with such a blank is not taken, whatever else it says. Nor is an `A` from nought.
+-- A blank number is never nought, and a blank user is nobody: a packet with such a blank is not taken, whatever else it says. Nor is an `A`
+-- from nought.
 -- Assumes nothing.
 use Prim.Native.Nat.{ℕ}
 use mathlib.Core.List.{List}

@@ -17,12 +17,16 @@ use Rattle.wire.proofs.Checks.{all-passed, passed-all, not-both, taken-same, ch
 use Rattle.wire.proofs.Tests.{one-of-fact}
 use Rattle.wire.proofs.Width.{bytes-drop, bytes-take, length-part}
 use Rattle.decimal.specs.Decimal.{wellFormed, valueOf, written, leadingZero}
-use Rattle.soup.specs.Packet.{Packet, debug, accept, reject, sequenced, serverHeartbeat, endOfSession, login, unsequenced, clientHeartbeat, logout, line, write, Payload, PaddedRight, PaddedLeft, Fit}
-use Rattle.soup.specs.Read.{last, field, payload, unbroken, opening, lineChecks, sizedChecks, rejectChecks, rejectOf, acceptOf, loginOf, readReject, readAccept, readLogin, byType, read}
+use Rattle.soup.specs.Packet.{Packet, debug, accept, reject, sequenced, serverHeartbeat, endOfSession, login, unsequenced}
+use Rattle.soup.specs.Packet.{clientHeartbeat, logout, line, write, Payload, PaddedRight, PaddedLeft, Fit}
+use Rattle.soup.specs.Read.{last, field, payload, unbroken, opening, lineChecks, sizedChecks, rejectChecks, rejectOf, acceptOf}
+use Rattle.soup.specs.Read.{loginOf, readReject, readAccept, readLogin, byType, read}
 use Rattle.soup.specs.Spelling.{speltAnew, spelling, padded}
 use Rattle.decimal.proofs.Written.{read-written, written-read, length-written}
-use Rattle.soup.proofs.Linefeed.{unbroken-none, none-unbroken, more, append-unbroken, right-unbroken, left-unbroken, written-unbroken}
-use Rattle.soup.proofs.Lines.{length-line, last-line, front-line, payload-line, line-whole, two-bytes, payload-unbroken, fields-join, field-in}
+use Rattle.soup.proofs.Linefeed.{unbroken-none, none-unbroken, more, append-unbroken, right-unbroken, left-unbroken}
+use Rattle.soup.proofs.Linefeed.{written-unbroken}
+use Rattle.soup.proofs.Lines.{length-line, last-line, front-line, payload-line, line-whole, two-bytes, payload-unbroken, fields-join}
+use Rattle.soup.proofs.Lines.{field-in}
 use Rattle.soup.proofs.Fields.{accept-taken, login-taken}
 use Rattle.soup.proofs.SpeltAnew.{anew, unspelt}
 
@@ -41,13 +45,15 @@ module _ (kind : ℕ) (s : List ℕ) (k : kind ≡ 10 → ⊥) (u : unbroken s �
   goes-on : (v : Verdict Packet) → length s ≤ 4096 → checked (opening (line kind s)) (checked (lineChecks (line kind s)) v) ≡ v
   goes-on v h = passed-all (opening (line kind s)) _ (opens h) ∙ passed-all (lineChecks (line kind s)) v ends
 
-  goes-on-sized : (n : ℕ) (v : Verdict Packet) → length s + 2 ≡ n → length s ≤ 4096 → checked (opening (line kind s)) (checked (sizedChecks n (line kind s)) v) ≡ v
+  goes-on-sized : (n : ℕ) (v : Verdict Packet) → length s + 2 ≡ n → length s ≤ 4096
+      → checked (opening (line kind s)) (checked (sizedChecks n (line kind s)) v) ≡ v
   goes-on-sized n v l h =
       passed-all (opening (line kind s)) _ (opens h)
       ∙ passed-all (sizedChecks n (line kind s)) v (eq-eqb (length (line kind s)) n (length-line kind s ∙ l), ends)
 
 -- a payload, under any of the three types
-carries : (kind : ℕ) (s : List ℕ) (packet : List ℕ → Packet) → (kind ≡ 10 → ⊥) → Payload s → checked (opening (line kind s)) (checked (lineChecks (line kind s)) (taken (packet (payload (line kind s))))) ≡ taken (packet s)
+carries : (kind : ℕ) (s : List ℕ) (packet : List ℕ → Packet) → (kind ≡ 10 → ⊥) → Payload s
+    → checked (opening (line kind s)) (checked (lineChecks (line kind s)) (taken (packet (payload (line kind s))))) ≡ taken (packet s)
 carries kind s packet k p =
     goes-on kind s k (none-unbroken s (p .2)) (taken (packet (payload (line kind s)))) (p .1)
     ∙ ap (λ (t : List ℕ). taken (packet t)) (payload-line kind s)
@@ -58,14 +64,16 @@ accepts session number f =
     let r = read-written number (f .3) in
     rw (f .0 .1, r .formed, f .1, r .filled, r .value, ne-eqb number 0 (λ e. omega arith), le-leb number (2 ^ 64 - 1) (omega arith))
 
-logs-in : (user password session : List ℕ) (number : ℕ) → Fit (login user password session number) → loginOf user password session (written number) ≡ taken (login user password session number)
+logs-in : (user password session : List ℕ) (number : ℕ) → Fit (login user password session number)
+    → loginOf user password session (written number) ≡ taken (login user password session number)
 unfolding Fit loginOf
 logs-in user password session number f =
     let r = read-written number (f .3) in
     rw (f .0 .1, f .1 .1, f .2 .1, r .formed, f .4, r .filled, r .value, le-leb number (2 ^ 64 - 1) (omega arith))
 
 -- the fields of a login are found in its line as they are, so that they decide
-pub login-decides : (user password session : List ℕ) (number : ℕ) → PaddedRight 6 user → PaddedRight 10 password → PaddedLeft 10 session → read (write (login user password session number)) ≡ loginOf user password session (written number)
+pub login-decides : (user password session : List ℕ) (number : ℕ) → PaddedRight 6 user → PaddedRight 10 password → PaddedLeft 10 session
+    → read (write (login user password session number)) ≡ loginOf user password session (written number)
 unfolding read
 login-decides user password session number a b c =
     let w = written number in
@@ -78,11 +86,13 @@ login-decides user password session number a b c =
     (left-unbroken session (c .1)))
     (written-unbroken number) in
     let d = line 76 s in
-    goes-on-sized 76 s (eqb-false 76 10 refl) u 48 (loginOf (field 1 6 d) (field 7 10 d) (field 17 10 d) (field 27 20 d)) (omega arith) (omega arith)
+    goes-on-sized 76 s (eqb-false 76 10 refl) u 48 (loginOf (field 1 6 d) (field 7 10 d) (field 17 10 d) (field 27 20 d)) (omega arith)
+    (omega arith)
     ∙ rw (
       field-in 76 0 6 s [] user (password ++ (session ++ w)) (simp append-assoc) refl (a .0),
       field-in 76 6 10 s user password (session ++ w) (simp append-assoc) (a .0) (b .0),
-      field-in 76 16 10 s (user ++ password) session w (append-assoc (user ++ password) session w) (simp length-append (omega arith)) (c .0),
+      field-in 76 16 10 s (user ++ password) session w (append-assoc (user ++ password) session w) (simp length-append (omega arith))
+          (c .0),
       field-in 76 26 20 s (user ++ password ++ session) w [] (rw append-nil) (simp length-append (omega arith)) (length-written number),
     )
 
@@ -96,7 +106,11 @@ written-is-read (accept session number) f =
     let l : length s ≡ 30 = simp (length-append, length-written) (omega arith) in
     let u : unbroken s ≡ true = append-unbroken session w (left-unbroken session (f .0 .1)) (written-unbroken number) in
     goes-on-sized 65 s (eqb-false 65 10 refl) u 32 (acceptOf (field 1 10 (line 65 s)) (field 11 20 (line 65 s))) (omega arith) (omega arith)
-    ∙ rw (field-in 65 0 10 s [] session w refl refl (f .0 .0), field-in 65 10 20 s session w [] (rw append-nil) (f .0 .0) (length-written number)) (accepts session number f)
+    ∙ rw (
+      field-in 65 0 10 s [] session w refl refl (f .0 .0),
+      field-in 65 10 20 s session w [] (rw append-nil) (f .0 .0)
+          (length-written number),
+    ) (accepts session number f)
 written-is-read (reject reason) f = ⊎-elim (λ e. rw e) (λ e. rw e) f
 written-is-read (sequenced message) f = carries 83 message sequenced (eqb-false 83 10 refl) f
 written-is-read serverHeartbeat f = refl
@@ -125,7 +139,9 @@ module _ (d : List ℕ) (b : Bytes d) (o : Passed (opening d)) (p : Packet) wher
   Same = Fit p × (write p ≡ d)
 
   -- a payload, under any of the three types
-  carried : (kind : ℕ) (packet : List ℕ → Packet) → ((s : List ℕ) → Payload s → Fit (packet s)) → ((s : List ℕ) → write (packet s) ≡ line kind s) → (kind ≡ 10 → ⊥) → eqb (getD d 0 0) kind ≡ true → checked (lineChecks d) (taken (packet (payload d))) ≡ taken p → Same
+  carried : (kind : ℕ) (packet : List ℕ → Packet) → ((s : List ℕ) → Payload s → Fit (packet s))
+      → ((s : List ℕ) → write (packet s) ≡ line kind s) → (kind ≡ 10 → ⊥) → eqb (getD d 0 0) kind ≡ true
+      → checked (lineChecks d) (taken (packet (payload d))) ≡ taken p → Same
   carried kind packet fit laid k t e =
       let r = all-passed (lineChecks d) (taken (packet (payload d))) p e in
       let q : getD d 0 0 ≡ kind = eqb-true (getD d 0 0) kind t in
@@ -154,7 +170,8 @@ module _ (d : List ℕ) (b : Bytes d) (o : Passed (opening d)) (p : Packet) wher
         rw (← q, ← size) (whole d (omega (arith, size)) (passed .0 .1))
 
   -- a packet that holds nothing, under any of the four types
-  bare : (kind : ℕ) (packet : Packet) → Fit packet → write packet ≡ line kind [] → eqb (getD d 0 0) kind ≡ true → checked (sizedChecks 2 d) (taken packet) ≡ taken p → Same
+  bare : (kind : ℕ) (packet : Packet) → Fit packet → write packet ≡ line kind [] → eqb (getD d 0 0) kind ≡ true
+      → checked (sizedChecks 2 d) (taken packet) ≡ taken p → Same
   bare kind packet fit laid t e =
       rw (← taken-same packet p (verdict 2 (omega arith) (taken packet) e)) (fit, laid ∙ framed 2 (omega arith) (taken packet) e kind t)
 
@@ -174,13 +191,15 @@ module _ (d : List ℕ) (b : Bytes d) (o : Passed (opening d)) (p : Packet) wher
   Lawful = Fit p × (write p ≡ spelling d) × (padded d ≡ false → write p ≡ d)
 
   -- which are one and the same for any type but A and L
-  own : (kind : ℕ) (v : Verdict Packet) → eqb kind 65 ≡ false → eqb kind 76 ≡ false → (eqb (getD d 0 0) kind ≡ true → v ≡ taken p → Same) → eqb (getD d 0 0) kind ≡ true → v ≡ taken p → Lawful
+  own : (kind : ℕ) (v : Verdict Packet) → eqb kind 65 ≡ false → eqb kind 76 ≡ false → (eqb (getD d 0 0) kind ≡ true → v ≡ taken p → Same)
+      → eqb (getD d 0 0) kind ≡ true → v ≡ taken p → Lawful
   own kind v a l same t e =
       let s = same t e in
       (s .0, s .1 ∙ sym (unspelt d kind (eqb-true (getD d 0 0) kind t) a l), λ _. s .1)
 
   -- a number that was read, where it stands in d
-  numbered : (before s : List ℕ) (place : ℕ) → length before ≡ place → length s ≡ 20 → before ++ s ++ 10 ∷ [] ≡ d → wellFormed s ≡ true → not (blank s) ≡ true → let w = before ++ written (valueOf s) ++ 10 ∷ [] in (w ≡ speltAnew d place) × (leadingZero s ≡ false → w ≡ d)
+  numbered : (before s : List ℕ) (place : ℕ) → length before ≡ place → length s ≡ 20 → before ++ s ++ 10 ∷ [] ≡ d → wellFormed s ≡ true
+      → not (blank s) ≡ true → let w = before ++ written (valueOf s) ++ 10 ∷ [] in (w ≡ speltAnew d place) × (leadingZero s ≡ false → w ≡ d)
   numbered before s place m l all f e = (
     sym (anew before s (10 ∷ []) place m l) ∙ ap (λ (x : List ℕ). speltAnew x place) all,
     λ u. ap (λ (x : List ℕ). before ++ x ++ 10 ∷ []) (written-read s l f (not-true (blank s) e) u) ∙ all,
@@ -200,7 +219,8 @@ module _ (d : List ℕ) (b : Bytes d) (o : Passed (opening d)) (p : Packet) wher
       let k : getD d 0 0 ≡ 65 = eqb-true (getD d 0 0) 65 t in
       let m : length session ≡ 10 = length-part 1 10 d (omega arith) in
       let i : length number ≡ 20 = length-part 11 20 d (omega arith) in
-      let all : line 65 (session ++ number) ≡ d = ap (line 65) (sym (fields-join 1 10 20 d)) ∙ framed 32 (omega arith) (acceptOf session number) e 65 t in
+      let all : line 65 (session ++ number) ≡ d = ap (line 65) (sym (fields-join 1 10 20 d)) ∙ framed 32 (omega arith)
+      (acceptOf session number) e 65 t in
       let n = numbered (65 ∷ session) number 11 (omega arith) i all (r .1 .0) (r .1 .1 .1 .0) in
       let z = eqb-false (valueOf number) 0 (not-true (eqb (valueOf number) 0) (r .1 .1 .1 .1 .0)) in
       rw (← a .same) (
@@ -224,7 +244,8 @@ module _ (d : List ℕ) (b : Bytes d) (o : Passed (opening d)) (p : Packet) wher
       let texts : user ++ password ++ session ≡ field 1 26 d = rw (← fields-join 1 6 10 d, ← fields-join 1 16 10 d) in
       let m : length (76 ∷ (user ++ password ++ session)) ≡ 27 = rw texts (ap suc (length-part 1 26 d (omega arith))) in
       let joined : user ++ password ++ session ++ number ≡ field 1 46 d = rw (texts, ← fields-join 1 26 20 d) in
-      let all : line 76 (user ++ password ++ session ++ number) ≡ d = ap (line 76) joined ∙ framed 48 (omega arith) (loginOf user password session number) e 76 t in
+      let all : line 76 (user ++ password ++ session ++ number) ≡ d = ap (line 76) joined ∙ framed 48 (omega arith)
+      (loginOf user password session number) e 76 t in
       let n = numbered (76 ∷ (user ++ password ++ session)) number 27 m i all (r .1 .1 .1 .0) (r .1 .1 .1 .1 .1 .0) in
       rw (← a .same) (
         (
@@ -255,9 +276,10 @@ module _ (d : List ℕ) (b : Bytes d) (o : Passed (opening d)) (p : Packet) wher
       (λ _. chosen (eqb kind 79) _ _ (taken p) (own 79 _ refl refl (bare 79 logout tt refl))
       (λ _. not-both (refused 3) 3 p refl))))))))))
 
--- Nothing else is taken: what is taken is lawful, and written again it gives its spelling, which is the very bytes that were read unless their number
--- is padded with noughts.
-pub read-is-written : (d : List ℕ) (p : Packet) → Bytes d → read d ≡ taken p → Fit p × (write p ≡ spelling d) × (padded d ≡ false → write p ≡ d)
+-- Nothing else is taken: what is taken is lawful, and written again it gives its spelling, which is the very bytes that were read unless
+-- their number is padded with noughts.
+pub read-is-written : (d : List ℕ) (p : Packet) → Bytes d → read d ≡ taken p → Fit p × (write p ≡ spelling d)
+    × (padded d ≡ false → write p ≡ d)
 unfolding read
 read-is-written d p b e =
     let r = all-passed (opening d) (byType (getD d 0 0) d) p e in

@@ -28,7 +28,8 @@ module _ {A : Type 0} (v : Verdict A) (n : ℕ) where
   faultless (c ∷ cs) k e z =
       by-test (c .test)
       (λ t. rw t (faultless cs (and-right (not (eqb (c .number) 0)) (numbered cs) k) (rw t at e) z))
-      (λ t. let q : n ≡ c .number = rw t at e in absurd (eqb-false (c .number) 0 (not-true (eqb (c .number) 0) (and-left (not (eqb (c .number) 0)) (numbered cs) k)) (sym q ∙ z)))
+      (λ t. let q : n ≡ c .number = rw t at e in
+      absurd (eqb-false (c .number) 0 (not-true (eqb (c .number) 0) (and-left (not (eqb (c .number) 0)) (numbered cs) k)) (sym q ∙ z)))
 
 pub reading-of : (cs : List Check) (v : Verdict Packet) → numbered cs ≡ true → orRefused (fault cs) (readingOf v) ≡ readingOf (checked cs v)
 reading-of cs v k =

@@ -9,7 +9,8 @@ use Rattle.wire.specs.Checks.{Check, Passed, checked, taken}
 use Rattle.wire.proofs.Checks.{all-passed, taken-same}
 use Rattle.decimal.specs.Decimal.{valueOf}
 use Rattle.soup.specs.Packet.{Packet, accept, login}
-use Rattle.soup.specs.Read.{opening, field, sizedChecks, acceptChecks, loginChecks, acceptOf, loginOf, readAccept, readLogin, byType, read}
+use Rattle.soup.specs.Read.{opening, field, sizedChecks, acceptChecks, loginChecks, acceptOf, loginOf, readAccept, readLogin, byType}
+use Rattle.soup.specs.Read.{read}
 
 -- a line of n bytes that was read as p, which is this packet, by these checks of its fields
 pub record ReadBy (d : List ℕ) (p : Packet) (n : ℕ) (cs : List Check) (packet : Packet) : Type 0 where
@@ -22,9 +23,11 @@ module _ (d : List ℕ) (p : Packet) where
   Accepted = ReadBy d p 32 (acceptChecks (field 1 10 d) (field 11 20 d)) (accept (field 1 10 d) (valueOf (field 11 20 d)))
 
   abbrev pub LoggedIn : Type 0
-  LoggedIn = ReadBy d p 48 (loginChecks (field 1 6 d) (field 7 10 d) (field 17 10 d) (field 27 20 d)) (login (field 1 6 d) (field 7 10 d) (field 17 10 d) (valueOf (field 27 20 d)))
+  LoggedIn = ReadBy d p 48 (loginChecks (field 1 6 d) (field 7 10 d) (field 17 10 d) (field 27 20 d))
+      (login (field 1 6 d) (field 7 10 d) (field 17 10 d) (valueOf (field 27 20 d)))
 
-  read-by : (n : ℕ) (cs : List Check) (packet : Packet) → checked (sizedChecks n d) (checked cs (taken packet)) ≡ taken p → ReadBy d p n cs packet
+  read-by : (n : ℕ) (cs : List Check) (packet : Packet) → checked (sizedChecks n d) (checked cs (taken packet)) ≡ taken p
+      → ReadBy d p n cs packet
   read-by n cs packet e =
       let sized = all-passed (sizedChecks n d) (checked cs (taken packet)) p e in
       let r = all-passed cs (taken packet) p (sized .1) in

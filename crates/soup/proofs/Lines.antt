@@ -64,7 +64,8 @@ fields-join i m n d = take-add m n (drop i d) ∙ ap (λ (t : List ℕ). field i
 -- a field of a line, between what stands before it and what stands behind it
 pub field-in : (kind m n : ℕ) (s a b c : List ℕ) → s ≡ a ++ (b ++ c) → length a ≡ m → length b ≡ n → field (suc m) n (line kind s) ≡ b
 field-in kind m n s a b c e A B =
-    rw (e, append-assoc a (b ++ c) (10 ∷ []), append-assoc b c (10 ∷ []), drop-at a (b ++ (c ++ 10 ∷ [])) m A) (take-at b (c ++ 10 ∷ []) n B)
+    rw (e, append-assoc a (b ++ c) (10 ∷ []), append-assoc b c (10 ∷ []), drop-at a (b ++ (c ++ 10 ∷ [])) m A)
+    (take-at b (c ++ 10 ∷ []) n B)
 
 pub last-empty : (d : List ℕ) → length d ≡ 0 → eqb (last d) 10 ≡ false
 last-empty [] e = refl

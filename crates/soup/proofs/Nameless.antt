@@ -14,17 +14,20 @@ use Rattle.soup.specs.Read.{loginOf, read}
 use Rattle.soup.proofs.Exact.{login-decides}
 
 -- six spaces for the user, and every check before it passed; the number may be blank, and it may be over the bound
-pub nameless-is-6 : (password session number : List ℕ) → textThenSpaces password ≡ true → spacesThenText session ≡ true → wellFormed number ≡ true → loginOf (replicate 6 32) password session number ≡ refused 6
+pub nameless-is-6 : (password session number : List ℕ) → textThenSpaces password ≡ true → spacesThenText session ≡ true
+    → wellFormed number ≡ true → loginOf (replicate 6 32) password session number ≡ refused 6
 unfolding loginOf blank textThenSpaces letterOrDigit
 nameless-is-6 password session number p s n = rw (p, s, n)
 
 -- so is the packet that such fields would be written as, and with it the writer's reply, whatever the room
-pub nameless-line : (password session : List ℕ) (number : ℕ) → PaddedRight 10 password → PaddedLeft 10 session → number < 2 ^ 64 → read (write (login (replicate 6 32) password session number)) ≡ refused 6
+pub nameless-line : (password session : List ℕ) (number : ℕ) → PaddedRight 10 password → PaddedLeft 10 session → number < 2 ^ 64
+    → read (write (login (replicate 6 32) password session number)) ≡ refused 6
 unfolding blank textThenSpaces letterOrDigit
 nameless-line password session number p s h =
     login-decides (replicate 6 32) password session number (refl, refl) p s
     ∙ nameless-is-6 password session (written number) (p .1) (s .1) (read-written number h .formed)
 
-pub user-is-enough : (user : List ℕ) (number : ℕ) → PaddedRight 6 user → blank user ≡ false → number < 2 ^ 64 → Fit (login user (replicate 10 32) (replicate 10 32) number)
+pub user-is-enough : (user : List ℕ) (number : ℕ) → PaddedRight 6 user → blank user ≡ false → number < 2 ^ 64
+    → Fit (login user (replicate 10 32) (replicate 10 32) number)
 unfolding Fit blank textThenSpaces spacesThenText letterOrDigit text
 user-is-enough user number u b h = (u, (refl, refl), (refl, refl), h, b)

@@ -26,5 +26,6 @@ module _ (d : List ℕ) (known : Bool) where
   pub ordered-A : (session number : List ℕ) → ordered (from-the-start (sizedChecks 32 d ++ acceptChecks session number)) ≡ true
   ordered-A session number = refl
 
-  pub ordered-L : (user password session number : List ℕ) → ordered (from-the-start (sizedChecks 48 d ++ loginChecks user password session number)) ≡ true
+  pub ordered-L : (user password session number : List ℕ)
+      → ordered (from-the-start (sizedChecks 48 d ++ loginChecks user password session number)) ≡ true
   ordered-L user password session number = refl

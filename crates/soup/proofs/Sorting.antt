@@ -28,12 +28,15 @@ module _ (d : List ℕ) where
   by-type kind n h k = rw (le-leb 1 (length d) (omega arith), le-leb (length d) 4098 h, k)
 
   -- what the code answers for a payload, under any of the three types
-  pub carried-as : (packet : List ℕ → Packet) (view : ℕ → Reading) → ((s : List ℕ) → packetOf (packet s) ≡ view (length s)) → (n : ℕ) (r : Reading) → n ≡ length d - 2 → r ≡ orRefused (fault (lineChecks d)) (view n) → r ≡ readingOf (checked (lineChecks d) (taken (packet (payload d))))
+  pub carried-as : (packet : List ℕ → Packet) (view : ℕ → Reading) → ((s : List ℕ) → packetOf (packet s) ≡ view (length s))
+      → (n : ℕ) (r : Reading) → n ≡ length d - 2 → r ≡ orRefused (fault (lineChecks d)) (view n)
+      → r ≡ readingOf (checked (lineChecks d) (taken (packet (payload d))))
   carried-as packet view same n r l e =
       let m : length (payload d) ≡ n = length-take-le (length d - 2) (drop 1 d) (rw length-drop (omega arith)) ∙ omega arith in
       let v : view n ≡ packetOf (packet (payload d)) = rw (same, m) in
       e ∙ ap (orRefused (fault (lineChecks d))) v ∙ reading-of (lineChecks d) (taken (packet (payload d))) refl
 
   -- and for a packet that holds nothing
-  pub bare-as : (packet : Packet) (r : Reading) → r ≡ orRefused (fault (sizedChecks 2 d)) (packetOf packet) → r ≡ readingOf (checked (sizedChecks 2 d) (taken packet))
+  pub bare-as : (packet : Packet) (r : Reading) → r ≡ orRefused (fault (sizedChecks 2 d)) (packetOf packet)
+      → r ≡ readingOf (checked (sizedChecks 2 d) (taken packet))
   bare-as packet r e = e ∙ reading-of (sizedChecks 2 d) (taken packet) refl

@@ -10,7 +10,8 @@ use Rattle.wire.specs.Fields.{Bytes}
 use Rattle.wire.specs.Checks.{taken}
 use Rattle.decimal.specs.Decimal.{written, leadingZero}
 use Rattle.decimal.proofs.Written.{read-written, length-written}
-use Rattle.soup.specs.Packet.{Packet, debug, accept, reject, sequenced, serverHeartbeat, endOfSession, login, unsequenced, clientHeartbeat, logout, write, Fit}
+use Rattle.soup.specs.Packet.{Packet, debug, accept, reject, sequenced, serverHeartbeat, endOfSession, login, unsequenced}
+use Rattle.soup.specs.Packet.{clientHeartbeat, logout, write, Fit}
 use Rattle.soup.specs.Read.{field, read}
 use Rattle.soup.specs.Spelling.{speltAnew, spelling, padded}
 use Rattle.soup.proofs.SpeltAnew.{found, anew}
@@ -19,7 +20,8 @@ use Rattle.soup.proofs.Exact.{written-is-read, read-is-written}
 -- ---- what we write
 
 -- a number in its line
-spelt-there : (before : List ℕ) (number place : ℕ) → length before ≡ place → number < 2 ^ 64 → let d = before ++ written number ++ 10 ∷ [] in (speltAnew d place ≡ d) × (leadingZero (field place 20 d) ≡ false)
+spelt-there : (before : List ℕ) (number place : ℕ) → length before ≡ place → number < 2 ^ 64 → let d = before ++ written number
+    ++ 10 ∷ [] in (speltAnew d place ≡ d) × (leadingZero (field place 20 d) ≡ false)
 spelt-there before number place b h =
     let w = written number in
     let r = read-written number h in

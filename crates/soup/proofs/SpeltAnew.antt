@@ -22,7 +22,13 @@ module _ (before number behind : List ℕ) (place : ℕ) (b : length before ≡ 
   unfolding speltAnew
   anew =
       let past : length (before ++ number) ≡ place + 20 = simp length-append (omega arith) in
-      rw (found, drop-at (before ++ number) behind (place + 20) past, append-assoc before number behind, take-at before (number ++ behind) place b)
+      rw (
+        found,
+        drop-at (before ++ number) behind (place + 20) past,
+        append-assoc before number behind,
+        take-at before (number ++ behind)
+            place b,
+      )
 
 -- a packet of another type than A and L
 pub unspelt : (d : List ℕ) (kind : ℕ) → getD d 0 0 ≡ kind → eqb kind 65 ≡ false → eqb kind 76 ≡ false → spelling d ≡ d

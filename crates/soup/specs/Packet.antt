@@ -64,7 +64,8 @@ Fit (reject reason) = (reason ≡ 65) ⊎ (reason ≡ 83)
 Fit (sequenced message) = Payload message
 Fit serverHeartbeat = Unit
 Fit endOfSession = Unit
-Fit (login user password session number) = PaddedRight 6 user × PaddedRight 10 password × PaddedLeft 10 session × (number < 2 ^ 64) × (blank user ≡ false)
+Fit (login user password session number) = PaddedRight 6 user × PaddedRight 10 password × PaddedLeft 10 session × (number < 2 ^ 64)
+    × (blank user ≡ false)
 Fit (unsequenced message) = Payload message
 Fit clientHeartbeat = Unit
 Fit logout = Unit

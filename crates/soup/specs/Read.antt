@@ -7,7 +7,8 @@ use lib.ListN.{length, getD, take, drop}
 use Rattle.wire.specs.Checks.{if_then_else_, _is_, _atMost_, Verdict, refused, taken, Check, _else_, checked}
 use Rattle.text.specs.Text.{blank, textThenSpaces, spacesThenText}
 use Rattle.decimal.specs.Decimal.{wellFormed, valueOf}
-use Rattle.soup.specs.Packet.{Packet, debug, accept, reject, sequenced, serverHeartbeat, endOfSession, login, unsequenced, clientHeartbeat, logout}
+use Rattle.soup.specs.Packet.{Packet, debug, accept, reject, sequenced, serverHeartbeat, endOfSession, login, unsequenced}
+use Rattle.soup.specs.Packet.{clientHeartbeat, logout}
 
 -- the last byte, and those before it
 abbrev pub last : List ℕ → ℕ

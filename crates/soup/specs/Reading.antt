@@ -5,9 +5,11 @@ use mathlib.Core.List.{List, [], _∷_}
 use lib.ListN.{length}
 use Rattle.wire.specs.Checks.{if_then_else_, _is_, Verdict, refused, taken, Check}
 use Rattle.names.specs.Names.{nameOf, userOf}
-use Rattle.soup.specs.Packet.{Packet, debug, accept, reject, sequenced, serverHeartbeat, endOfSession, login, unsequenced, clientHeartbeat, logout}
+use Rattle.soup.specs.Packet.{Packet, debug, accept, reject, sequenced, serverHeartbeat, endOfSession, login, unsequenced}
+use Rattle.soup.specs.Packet.{clientHeartbeat, logout}
 use Rattle.soup.specs.declared.reading.Reading.{Reading}
-use Rattle.soup.specs.declared.reading.Reading.the-variants.{Refused, Debug, Accept, Reject, Sequenced, ServerHeartbeat, EndOfSession, Login, Unsequenced, ClientHeartbeat, Logout}
+use Rattle.soup.specs.declared.reading.Reading.the-variants.{Refused, Debug, Accept, Reject, Sequenced, ServerHeartbeat, EndOfSession}
+use Rattle.soup.specs.declared.reading.Reading.the-variants.{Login, Unsequenced, ClientHeartbeat, Logout}
 
 -- a payload by its place in the packet, a text by its bytes packed
 abbrev pub packetOf : Packet → Reading
@@ -17,7 +19,8 @@ packetOf (reject reason) = Reject reason
 packetOf (sequenced message) = Sequenced 1 (length message)
 packetOf serverHeartbeat = ServerHeartbeat
 packetOf endOfSession = EndOfSession
-packetOf (login user password session number) = Login (userOf user) (record { 0 = nameOf password }) (nameOf session) (record { 0 = number })
+packetOf (login user password session number) = Login (userOf user) (record { 0 = nameOf password }) (nameOf session)
+    (record { 0 = number })
 packetOf (unsequenced message) = Unsequenced 1 (length message)
 packetOf clientHeartbeat = ClientHeartbeat
 packetOf logout = Logout

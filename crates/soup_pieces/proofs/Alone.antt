@@ -18,12 +18,14 @@ use Rattle.soup_pieces.proofs.Takes.{goes-on}
 use Rattle.soup_pieces.proofs.Callers.{Hung}
 
 -- two buffers that are long enough, with the same bytes kept, whatever stands behind them
-pub only-kept-count : (pieces : Pieces) (buffer other piece : List ℕ) (place : ℕ) → 4098 ≤ length buffer → 4098 ≤ length other → take (pieces .kept) buffer ≡ take (pieces .kept) other → taking pieces buffer piece place ≡ taking pieces other piece place
+pub only-kept-count : (pieces : Pieces) (buffer other piece : List ℕ) (place : ℕ) → 4098 ≤ length buffer → 4098 ≤ length other
+    → take (pieces .kept) buffer ≡ take (pieces .kept) other → taking pieces buffer piece place ≡ taking pieces other piece place
 unfolding taking hangs
 only-kept-count pieces buffer other piece place h k e = rw (le-leb 4098 (length buffer) h, le-leb 4098 (length other) k, e)
 
 -- nothing is left of the piece, as of an empty one from the first
-pub nothing-changes : (l : Lent) (piece : List ℕ) (r : Taken) (left : List ℕ) → Hung l → Allowed l piece (length piece) r left → (r ≡ takes.UsedUp (l .pieces)) × (left ≡ l .buffer)
+pub nothing-changes : (l : Lent) (piece : List ℕ) (r : Taken) (left : List ℕ) → Hung l → Allowed l piece (length piece) r left
+    → (r ≡ takes.UsedUp (l .pieces)) × (left ≡ l .buffer)
 unfolding first
 nothing-changes l piece r left h a =
     let e = goes-on (l .pieces) (l .buffer) piece (length piece) h (omega arith) in

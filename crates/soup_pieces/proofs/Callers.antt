@@ -1,5 +1,5 @@
--- Whoever calls until a piece is used up, piece after piece, is handed what the machine hands out for the bytes joined, however they were cut, and ends
--- in the same state: each call goes as far as the first thing that is handed out, and the next call goes on from there.
+-- Whoever calls until a piece is used up, piece after piece, is handed what the machine hands out for the bytes joined, however they were
+-- cut, and ends in the same state: each call goes as far as the first thing that is handed out, and the next call goes on from there.
 -- Assumes nothing.
 use Prim.Native.Nat.{ℕ, zero, suc, _+_, _-_, _≤_, _<_}
 use mathlib.Core.Path.{_≡_, refl, sym, ap, _∙_}
@@ -13,7 +13,8 @@ use Rattle.wire.specs.Reply.{leftOf}
 use Rattle.soup.specs.Reading.{packetOf}
 use Rattle.soup_pieces.specs.Machine.{State, Handed, packet, refusal, First, usedUp, given, first, outcomes, after, handed}
 use Rattle.soup_pieces.specs.Taking.{stateOf, piecesOf, hangs, takenOf, standing}
-use Rattle.soup_pieces.specs.Calling.{Lent, stateIn, Entry, Allowed, Seen, aPacket, aRefusal, seen, Calls, usesUp, hands, refuses, Feeds, done, feeds, joined}
+use Rattle.soup_pieces.specs.Calling.{Lent, stateIn, Entry, Allowed, Seen, aPacket, aRefusal, seen, Calls, usesUp, hands, refuses}
+use Rattle.soup_pieces.specs.Calling.{Feeds, done, feeds, joined}
 use Rattle.soup_pieces.specs.declared.Taken.{Taken}
 use Rattle.soup_pieces.specs.declared.Taken.the-variants as takes
 use Rattle.soup_pieces.proofs.Cutting.{after-cut, handed-cut}
@@ -43,7 +44,8 @@ state-back t rest = rw (take-append-seam (t .kept) rest)
 -- and where nothing is kept, whatever stands there
 pub state-empty : (t : State) (buffer : List ℕ) → t .kept ≡ [] → stateOf (piecesOf t) buffer ≡ t
 state-empty t buffer e = by (t .kept) e where
-  by : (k : List ℕ) → k ≡ [] → _≡_ {A = State} (record { kept = take (length k) buffer; dropping = t .dropping; next = t .next }) (record { kept = k; dropping = t .dropping; next = t .next })
+  by : (k : List ℕ) → k ≡ [] → _≡_ {A = State} (record { kept = take (length k) buffer; dropping = t .dropping; next = t .next })
+      (record { kept = k; dropping = t .dropping; next = t .next })
   by k e = rw e
 
 -- a buffer does not get shorter
@@ -85,7 +87,8 @@ module _ (l : Lent) (piece : List ℕ) (place : ℕ) where
   abbrev Means : Taken → List ℕ → Type 0
   Means (takes.Refused n) left = ⊥
   Means (takes.UsedUp then) left = (handed (outcomes s w) ≡ []) × (stateOf then left ≡ after s w) × (hangs then left ≡ true)
-  Means (takes.Packet says number bytes next then) left = Further (aPacket (take bytes left) says (number .0)) next (record { pieces = then; buffer = left })
+  Means (takes.Packet says number bytes next then) left = Further (aPacket (take bytes left) says (number .0)) next
+      (record { pieces = then; buffer = left })
   Means (takes.Unfit why bytes next then) left = Further (aRefusal (take bytes left) why) next (record { pieces = then; buffer = left })
 
   module _ (h : Hung l) (p : place ≤ length piece) where
@@ -93,7 +96,8 @@ module _ (l : Lent) (piece : List ℕ) (place : ℕ) where
     long = hanging (l .pieces) (l .buffer) h .long
 
     -- this is handed out, which the caller sees as `this`, and stands at the buffer's start
-    further : (x : Handed) (this : Seen) (t : State) (left rest : List ℕ) → seen (x ∷ []) ≡ this ∷ [] → As-far s w x t left → 4098 ≤ length rest → Further this (length piece - length left) (record { pieces = piecesOf t; buffer = rest })
+    further : (x : Handed) (this : Seen) (t : State) (left rest : List ℕ) → seen (x ∷ []) ≡ this ∷ [] → As-far s w x t left
+        → 4098 ≤ length rest → Further this (length piece - length left) (record { pieces = piecesOf t; buffer = rest })
     further x this t left rest e g m =
         let n : length w ≡ length (g .eaten) + length left = ap length (g .cut) ∙ length-append (g .eaten) left in
         let q : length piece - length left ≡ place + length (g .eaten) = omega (arith, length-drop place piece, g .some) in
@@ -116,7 +120,8 @@ module _ (l : Lent) (piece : List ℕ) (place : ℕ) where
         let i : Sound t = rw (← g .1) (sound-after s w (sound-in l h)) in
         (g .0, back ∙ sym (g .1), hung-after t rest i (still-long (t .kept) (l .buffer) long) back)
     means (given (packet d q number) t left) g =
-        rw (take-append-seam d (drop (length d) (l .buffer))) (further (packet d q number) _ t left _ refl g (still-long d (l .buffer) long))
+        rw (take-append-seam d (drop (length d) (l .buffer)))
+        (further (packet d q number) _ t left _ refl g (still-long d (l .buffer) long))
     means (given (refusal d why) t left) g =
         rw (take-append-seam d (drop (length d) (l .buffer))) (further (refusal d why) _ t left _ refl g (still-long d (l .buffer) long))
 
@@ -129,7 +134,8 @@ module _ (l : Lent) (piece : List ℕ) (place : ℕ) where
         rw (answer, bytes) (means f (goes s w))
 
 -- where a state hangs together no call inside the piece is refused
-pub never-refused : (l : Lent) (piece : List ℕ) (place n : ℕ) (left : List ℕ) → Hung l → place ≤ length piece → Allowed l piece place (takes.Refused n) left → ⊥
+pub never-refused : (l : Lent) (piece : List ℕ) (place n : ℕ) (left : List ℕ) → Hung l → place ≤ length piece
+    → Allowed l piece place (takes.Refused n) left → ⊥
 never-refused l piece place n left h p a = call-means l piece place h p (takes.Refused n) left a
 
 -- ---- many calls, by an entry that allows no more than the contract
@@ -140,8 +146,10 @@ pub record Eaten-up (l : Lent) (bs : List ℕ) (saw : List Seen) (end : Lent) : 
   pub state : stateIn end ≡ after (stateIn l) bs
   pub hung : Hung end
 
-module _ (entry : Entry) (allows : (l : Lent) (piece : List ℕ) (place : ℕ) (r : Taken) (left : List ℕ) → entry l piece place r left → Allowed l piece place r left) where
-  pub calls-eat : (piece : List ℕ) (l : Lent) (place : ℕ) (saw : List Seen) (end : Lent) → Hung l → place ≤ length piece → Calls entry piece l place saw end → Eaten-up l (drop place piece) saw end
+module _ (entry : Entry) (allows : (l : Lent) (piece : List ℕ) (place : ℕ) (r : Taken) (left : List ℕ) → entry l piece place r left
+    → Allowed l piece place r left) where
+  pub calls-eat : (piece : List ℕ) (l : Lent) (place : ℕ) (saw : List Seen) (end : Lent) → Hung l → place ≤ length piece
+      → Calls entry piece l place saw end → Eaten-up l (drop place piece) saw end
   calls-eat piece l place saw end h p (usesUp _ _ kept left a) =
       let m = call-means l piece place h p (takes.UsedUp kept) left (allows l piece place _ left a) in
       record { handed-out = rw (m .0); state = m .1; hung = m .2 }
@@ -154,14 +162,22 @@ module _ (entry : Entry) (allows : (l : Lent) (piece : List ℕ) (place : ℕ) (
       let c = calls-eat piece (record { pieces = kept; buffer = left }) next more end (m .hung) (m .inside) cs in
       record { handed-out = rw (m .gave, c .handed-out); state = c .state ∙ sym (m .same); hung = c .hung }
 
-  pub feeds-eat : (l : Lent) (pieces : List (List ℕ)) (saw : List Seen) (end : Lent) → Hung l → Feeds entry l pieces saw end → Eaten-up l (joined pieces) saw end
+  pub feeds-eat : (l : Lent) (pieces : List (List ℕ)) (saw : List Seen) (end : Lent) → Hung l → Feeds entry l pieces saw end
+      → Eaten-up l (joined pieces) saw end
   unfolding outcomes after handed
   feeds-eat l pieces saw end h (done _) = record { handed-out = refl; state = refl; hung = h }
   feeds-eat l pieces saw end h (feeds _ piece rest some more then _ cs fs) =
       let c = calls-eat piece l 0 some then h (omega arith) cs in
       let f = feeds-eat then rest more end (c .hung) fs in
       record {
-        handed-out = rw (c .handed-out, f .handed-out, c .state, handed-cut (stateIn l) piece (joined rest), seen-append (handed (outcomes (stateIn l) piece)) (handed (outcomes (after (stateIn l) piece) (joined rest))));
+        handed-out = rw (
+          c .handed-out,
+          f .handed-out,
+          c .state,
+          handed-cut (stateIn l) piece (joined rest),
+          seen-append
+              (handed (outcomes (stateIn l) piece)) (handed (outcomes (after (stateIn l) piece) (joined rest))),
+        );
         state = f .state ∙ rw (c .state, after-cut (stateIn l) piece (joined rest));
         hung = f .hung;
       }
@@ -182,36 +198,55 @@ module _ (entry : Entry) (allows : (l : Lent) (piece : List ℕ) (place : ℕ) (
 
 -- ---- calling comes to an end: each answer but the last has moved on in the piece
 
-answered : (l : Lent) (piece : List ℕ) (place : ℕ) → Hung l → place ≤ length piece → (f : First) → first (stateIn l) (drop place piece) ≡ f → Allowed l piece place (takenOf piece (taken f)) (leftOf (taken (standing f)) (l .buffer))
+answered : (l : Lent) (piece : List ℕ) (place : ℕ) → Hung l → place ≤ length piece → (f : First) → first (stateIn l) (drop place piece) ≡ f
+    → Allowed l piece place (takenOf piece (taken f)) (leftOf (taken (standing f)) (l .buffer))
 answered l piece place h p f e =
     let g = goes-on (l .pieces) (l .buffer) piece place h p in
     record { answer = rw (g, e); bytes = rw (g, e) }
 
-calls-end : (turns : ℕ) (piece : List ℕ) (l : Lent) (place : ℕ) → length piece - place < turns → Hung l → place ≤ length piece → (saw : List Seen) × (end : Lent) × Calls Allowed piece l place saw end
+calls-end : (turns : ℕ) (piece : List ℕ) (l : Lent) (place : ℕ) → length piece - place < turns → Hung l → place ≤ length piece
+    → (saw : List Seen) × (end : Lent) × Calls Allowed piece l place saw end
 calls-end zero piece l place n h p = absurd (omega arith)
-calls-end (suc turns) piece l place n h p = by (λ m k. calls-end turns piece m k) (first (stateIn l) (drop place piece)) refl (goes (stateIn l) (drop place piece)) where
-  left-by : First → List ℕ
-  left-by f = leftOf (taken (standing f)) (l .buffer)
+calls-end (suc turns) piece l place n h p = by (λ m k. calls-end turns piece m k) (first (stateIn l) (drop place piece)) refl
+    (goes (stateIn l) (drop place piece)) where
+      left-by : First → List ℕ
+      left-by f = leftOf (taken (standing f)) (l .buffer)
 
-  then : First → Lent
-  then (usedUp t) = record { pieces = piecesOf t; buffer = left-by (usedUp t) }
-  then (given x t left) = record { pieces = piecesOf t; buffer = left-by (given x t left) }
+      then : First → Lent
+      then (usedUp t) = record { pieces = piecesOf t; buffer = left-by (usedUp t) }
+      then (given x t left) = record { pieces = piecesOf t; buffer = left-by (given x t left) }
 
-  by : ((m : Lent) (k : ℕ) → length piece - k < turns → Hung m → k ≤ length piece → (saw : List Seen) × (end : Lent) × Calls Allowed piece m k saw end)
-      → (f : First) → first (stateIn l) (drop place piece) ≡ f → Goes (stateIn l) (drop place piece) f → (saw : List Seen) × (end : Lent) × Calls Allowed piece l place saw end
-  by on (usedUp t) e g = ([], then (usedUp t), usesUp l place (piecesOf t) (left-by (usedUp t)) (answered l piece place h p (usedUp t) e))
-  by on (given (packet d q number) t left) e g =
-      let f = given (packet d q number) t left in
-      let next = length piece - length left in
-      let m = means l piece place h p f g in
-      let c = on (then f) next (omega (arith, m .moved, m .inside)) (m .hung) (m .inside) in
-      (aPacket (take (length d) (left-by f)) (packetOf q) number ∷ c .0, c .1, hands l place (packetOf q) (record { 0 = number }) (length d) next (piecesOf t) (left-by f) (c .0) (c .1) (answered l piece place h p f e) (c .2))
-  by on (given (refusal d why) t left) e g =
-      let f = given (refusal d why) t left in
-      let next = length piece - length left in
-      let m = means l piece place h p f g in
-      let c = on (then f) next (omega (arith, m .moved, m .inside)) (m .hung) (m .inside) in
-      (aRefusal (take (length d) (left-by f)) why ∷ c .0, c .1, refuses l place why (length d) next (piecesOf t) (left-by f) (c .0) (c .1) (answered l piece place h p f e) (c .2))
+      by : ((m : Lent) (k : ℕ) → length piece - k < turns → Hung m → k ≤ length piece → (saw : List Seen) × (end : Lent)
+          × Calls Allowed piece m k saw end)
+          → (f : First) → first (stateIn l) (drop place piece) ≡ f → Goes (stateIn l) (drop place piece) f → (saw : List Seen)
+          × (end : Lent)
+          × Calls Allowed piece l place saw end
+      by on (usedUp t) e g = (
+        [],
+        then (usedUp t),
+        usesUp l place (piecesOf t) (left-by (usedUp t))
+            (answered l piece place h p (usedUp t) e),
+      )
+      by on (given (packet d q number) t left) e g =
+          let f = given (packet d q number) t left in
+          let next = length piece - length left in
+          let m = means l piece place h p f g in
+          let c = on (then f) next (omega (arith, m .moved, m .inside)) (m .hung) (m .inside) in (
+            aPacket (take (length d) (left-by f)) (packetOf q) number ∷ c .0,
+            c .1,
+            hands l place (packetOf q) (record { 0 = number }) (length d)
+                next (piecesOf t) (left-by f) (c .0) (c .1) (answered l piece place h p f e) (c .2),
+          )
+      by on (given (refusal d why) t left) e g =
+          let f = given (refusal d why) t left in
+          let next = length piece - length left in
+          let m = means l piece place h p f g in
+          let c = on (then f) next (omega (arith, m .moved, m .inside)) (m .hung) (m .inside) in (
+            aRefusal (take (length d) (left-by f)) why ∷ c .0,
+            c .1,
+            refuses l place why (length d) next (piecesOf t) (left-by f) (c .0) (c .1)
+                (answered l piece place h p f e) (c .2),
+          )
 
 pub feeding-ends : (l : Lent) (pieces : List (List ℕ)) → Hung l → (saw : List Seen) × (end : Lent) × Feeds Allowed l pieces saw end
 feeding-ends l [] h = ([], l, done l)

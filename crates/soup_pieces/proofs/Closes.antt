@@ -18,7 +18,8 @@ use Rattle.wire.proofs.Checks.{passed-all}
 use Rattle.wire.proofs.Tests.{by-test, impossible}
 use Rattle.wire.specs.declared.kinds.Name.{Name}
 use Rattle.wire.specs.declared.kinds.Sequence.{Sequence}
-use Rattle.soup.specs.Packet.{Packet, debug, accept, reject, sequenced, serverHeartbeat, endOfSession, login, unsequenced, clientHeartbeat, logout, write}
+use Rattle.soup.specs.Packet.{Packet, debug, accept, reject, sequenced, serverHeartbeat, endOfSession, login, unsequenced, clientHeartbeat}
+use Rattle.soup.specs.Packet.{logout, write}
 use Rattle.soup.specs.Read.{last, payload, unbroken, lineChecks, read}
 use Rattle.soup.specs.Reading.{packetOf, readingOf}
 use Rattle.soup.specs.declared.reading.Reading.{Reading}
@@ -29,7 +30,7 @@ use Rattle.soup.proofs.Lines.{two-bytes}
 use Rattle.soup.proofs.Sorting.{by-type}
 use Rattle.soup.proofs.reading.Reading as Reading-type
 use Rattle.soup_pieces.specs.Machine.{begins, neither, roleOf, judge}
-use Rattle.soup_pieces.specs.Steps.{Line, emptyPieces, unfit, unnumbered, sequencedFault, closed}
+use Rattle.soup_pieces.specs.Closing.{Line, emptyPieces, unfit, unnumbered, sequencedFault, closed}
 use Rattle.soup_pieces.specs.declared.Taken.the-variants as takes
 
 -- the place of a case among the reader's answers
@@ -102,10 +103,12 @@ module _ (d : List ℕ) (l : Line d) (next place : ℕ) where
         by-test (eqb next 0)
         (λ t. rw (is-sequenced, t, e, t))
         (λ t. by-test (eqb next (2 ^ 64 - 1))
-        (λ f. let h : next ≡ 2 ^ 64 - 1 = eqb-true next (2 ^ 64 - 1) f in rw (is-sequenced, t, lt-leb next (2 ^ 64 - 2) (omega arith), e, t, f))
+        (λ f. let h : next ≡ 2 ^ 64 - 1 = eqb-true next (2 ^ 64 - 1) f in
+        rw (is-sequenced, t, lt-leb next (2 ^ 64 - 2) (omega arith), e, t, f))
         (λ f. absurd (z (e ∙ rw (t, f)))))
 
-    pub message-taken : next < 2 ^ 64 → 0 ≡ sequencedFault next → takes.Packet (Sequenced 1 (length d - 2)) (record { 0 = next }) (length d) place (emptyPieces false (next + 1)) ≡ closed d next place
+    pub message-taken : next < 2 ^ 64 → 0 ≡ sequencedFault next → takes.Packet (Sequenced 1 (length d - 2)) (record { 0 = next }) (length d)
+        place (emptyPieces false (next + 1)) ≡ closed d next place
     unfolding closed judge
     message-taken h e =
         let m : length (payload d) ≡ length d - 2 = length-take-le (length d - 2) (drop 1 d) (rw length-drop (omega (arith, two))) in
@@ -113,7 +116,8 @@ module _ (d : List ℕ) (l : Line d) (next place : ℕ) where
         (λ t. let z : _≡_ {A = ℕ} 0 16 = rw t at e in absurd (omega arith))
         (λ t. by-test (eqb next (2 ^ 64 - 1))
         (λ f. let z : _≡_ {A = ℕ} 0 7 = rw (t, f) at e in absurd (omega arith))
-        (λ f. let g : next ≡ 2 ^ 64 - 1 → ⊥ = eqb-false next (2 ^ 64 - 1) f in rw (is-sequenced, t, le-leb next (2 ^ 64 - 2) (omega arith), m, add-one)))
+        (λ f. let g : next ≡ 2 ^ 64 - 1 → ⊥ = eqb-false next (2 ^ 64 - 1) f in
+        rw (is-sequenced, t, le-leb next (2 ^ 64 - 2) (omega arith), m, add-one)))
 
   -- ---- any other, by the reader's answer
 
@@ -125,14 +129,17 @@ module _ (d : List ℕ) (l : Line d) (next place : ℕ) where
       by (refused n) q z = let m : n ≡ why = cc in rw (q, m)
       by (taken p) q z = absurd (told p .later (ap place-of z))
 
-    pub accepted-line : (session : Name) (number : Sequence) → r ≡ Accept session number → next ≡ 0 → unnumbered (Accept session number) (length d) (number .0) place ≡ closed d next place
+    pub accepted-line : (session : Name) (number : Sequence) → r ≡ Accept session number → next ≡ 0
+        → unnumbered (Accept session number) (length d) (number .0) place ≡ closed d next place
     unfolding closed judge
     accepted-line session number k n = by (read d) refl (sym e ∙ k) where
-      by : (v : Verdict Packet) → read d ≡ v → readingOf v ≡ Accept session number → unnumbered (Accept session number) (length d) (number .0) place ≡ closed d next place
+      by : (v : Verdict Packet) → read d ≡ v → readingOf v ≡ Accept session number → unnumbered (Accept session number) (length d)
+          (number .0) place ≡ closed d next place
       by (refused m) q z = impossible cc
       by (taken p) q z = let t = told p .accepted session number z in rw (q, t, eq-eqb next 0 n, t, z)
 
-    pub second-line : (session : Name) (number : Sequence) → r ≡ Accept session number → (next ≡ 0 → ⊥) → unfit 16 (length d) next place ≡ closed d next place
+    pub second-line : (session : Name) (number : Sequence) → r ≡ Accept session number → (next ≡ 0 → ⊥)
+        → unfit 16 (length d) next place ≡ closed d next place
     unfolding closed judge
     second-line session number k n = by (read d) refl (sym e ∙ k) where
       by : (v : Verdict Packet) → read d ≡ v → readingOf v ≡ Accept session number → unfit 16 (length d) next place ≡ closed d next place

@@ -1,4 +1,5 @@
--- The callers' laws over the contract of `take` as it is generated from the source: whatever outcomes it allows, the same bytes cut elsewhere give the same.
+-- The callers' laws over the contract of `take` as it is generated from the source: whatever outcomes it allows, the same bytes cut
+-- elsewhere give the same.
 -- Assumes nothing.
 use Prim.Native.Nat.{ℕ}
 use mathlib.Core.Path.{_≡_}
@@ -26,10 +27,12 @@ Ensured l piece place r left =
     × (now (e .1 .0) ≡ left)
     × take-reads.Post κs a r e
 
-pub ensured-allowed : (l : Lent) (piece : List ℕ) (place : ℕ) (r : Taken) (left : List ℕ) → Ensured l piece place r left → Allowed l piece place r left
+pub ensured-allowed : (l : Lent) (piece : List ℕ) (place : ℕ) (r : Taken) (left : List ℕ) → Ensured l piece place r left
+    → Allowed l piece place r left
 ensured-allowed l piece place r left x = rw (← x .3, ← x .4, ← x .5, ← x .6, ← x .7) (x .8)
 
-pub fed-is-eaten : (l : Lent) (pieces : List (List ℕ)) (saw : List Seen) (end : Lent) → Hung l → Feeds Ensured l pieces saw end → Eaten-up l (joined pieces) saw end
+pub fed-is-eaten : (l : Lent) (pieces : List (List ℕ)) (saw : List Seen) (end : Lent) → Hung l → Feeds Ensured l pieces saw end
+    → Eaten-up l (joined pieces) saw end
 fed-is-eaten = feeds-eat Ensured ensured-allowed
 
 pub cut-elsewhere : (l m : Lent) (pieces others : List (List ℕ)) (saw got : List Seen) (end last : Lent)

@@ -1,4 +1,5 @@
--- The count of S packets gives the number: once Login Accepted has named the first, messages are numbered one after the other, whatever else comes between them.
+-- The count of S packets gives the number: once Login Accepted has named the first, messages are numbered one after the other, whatever
+-- else comes between them.
 -- Assumes nothing.
 use Prim.Native.Nat.{ℕ, zero, suc, _+_, _≤_}
 use mathlib.Core.Path.{_≡_, refl, ap}
@@ -9,7 +10,8 @@ use borrow.Author.Tests.{eqb-true, eqb-false, not-true}
 use Rattle.wire.specs.Checks.{Passed, _is_}
 use Rattle.wire.proofs.Tests.{impossible}
 use Rattle.soup.specs.Packet.{Packet}
-use Rattle.soup_pieces.specs.Machine.{State, Handed, packet, refusal, gives, Eaten, Role, begins, counted, neither, roleOf, turnChecks, numberOf, nextAfter, eat, outcomes, after, handed}
+use Rattle.soup_pieces.specs.Machine.{State, Handed, packet, refusal, gives, Eaten, Role, begins, counted, neither, roleOf}
+use Rattle.soup_pieces.specs.Machine.{turnChecks, numberOf, nextAfter, eat, outcomes, after, handed}
 use Rattle.soup_pieces.proofs.Eats as eats
 use Rattle.soup_pieces.proofs.Genuine.{judged}
 
@@ -35,7 +37,8 @@ pub record Counted (from to : ℕ) (ns : List ℕ) : Type 0 where
   pub reached : to ≡ from + length ns
 
 -- one packet in front
-one-more : (next to : ℕ) (ns : List ℕ) (role : Role) → 1 ≤ next → Passed (turnChecks next role) → (1 ≤ nextAfter next role → Counted (nextAfter next role) to ns) → Counted next to (withNumber role (numberOf next role) ns)
+one-more : (next to : ℕ) (ns : List ℕ) (role : Role) → 1 ≤ next → Passed (turnChecks next role)
+    → (1 ≤ nextAfter next role → Counted (nextAfter next role) to ns) → Counted next to (withNumber role (numberOf next role) ns)
 one-more next to ns (begins number) h p c = let z : next ≡ 0 = eqb-true next 0 (p .0) in absurd (omega arith)
 one-more next to ns counted h p c =
     let r = c (omega arith) in
@@ -47,7 +50,8 @@ unfolding outcomes after handed
 counted-on s [] h = record { in-turn = refl; reached = omega arith }
 counted-on s (b ∷ bs) h = by (λ t. counted-on t bs) (eat s b) (eats.eats s b) where
   by : ((t : State) → 1 ≤ t .next → Counted (t .next) (after t bs .next) (numbers (handed (outcomes t bs))))
-      → (x : Eaten) → eats.Eats s b x → Counted (s .next) (after (x .after) bs .next) (numbers (handed (x .outcome ∷ outcomes (x .after) bs)))
+      → (x : Eaten) → eats.Eats s b x → Counted (s .next) (after (x .after) bs .next)
+      (numbers (handed (x .outcome ∷ outcomes (x .after) bs)))
   by on x (eats.dropped _) = on (x .after) h
   by on x (eats.kept _ _ _) = on (x .after) h
   by on x (eats.handed _ _ p j) = one-more (s .next) _ _ (roleOf p) h (judged (s .next) (eats.gathered s b) p j .1) (on (x .after))
@@ -55,7 +59,8 @@ counted-on s (b ∷ bs) h = by (λ t. counted-on t bs) (eat s b) (eats.eats s b)
   by on x (eats.overlong _ _ l) = on (x .after) h
 
 -- before Login Accepted no message is handed out
-pub none-before : (s : State) (b : ℕ) (d : List ℕ) (p : Packet) (number : ℕ) → s .next ≡ 0 → eat s b .outcome ≡ gives (packet d p number) → roleOf p ≡ counted → ⊥
+pub none-before : (s : State) (b : ℕ) (d : List ℕ) (p : Packet) (number : ℕ) → s .next ≡ 0 → eat s b .outcome ≡ gives (packet d p number)
+    → roleOf p ≡ counted → ⊥
 none-before s b d p number z e r = by (eat s b) (eats.eats s b) e where
   by : (x : Eaten) → eats.Eats s b x → x .outcome ≡ gives (packet d p number) → ⊥
   by x (eats.dropped _) e = impossible cc
@@ -68,7 +73,8 @@ none-before s b d p number z e r = by (eat s b) (eats.eats s b) e where
   by x (eats.overlong _ _ l) e = impossible cc
 
 -- a refused packet is used up, and leaves the number alone
-pub refusal-leaves : (s : State) (b : ℕ) (d : List ℕ) (why : ℕ) → eat s b .outcome ≡ gives (refusal d why) → (eat s b .after .kept ≡ []) × (eat s b .after .next ≡ s .next)
+pub refusal-leaves : (s : State) (b : ℕ) (d : List ℕ) (why : ℕ) → eat s b .outcome ≡ gives (refusal d why) → (eat s b .after .kept ≡ [])
+    × (eat s b .after .next ≡ s .next)
 refusal-leaves s b d why e = by (eat s b) (eats.eats s b) e where
   by : (x : Eaten) → eats.Eats s b x → x .outcome ≡ gives (refusal d why) → (x .after .kept ≡ []) × (x .after .next ≡ s .next)
   by x (eats.dropped _) e = impossible cc

@@ -1,4 +1,5 @@
--- What is gathered behind the kept bytes: as far as a linefeed, the 4,098th byte or the piece's end, whichever comes first, the machine and the code agree.
+-- What is gathered behind the kept bytes: as far as a linefeed, the 4,098th byte or the piece's end, whichever comes first, the machine and
+-- the code agree.
 -- Assumes nothing.
 use Prim.Native.Nat.{ℕ, suc, _+_, _-_, min, _≤_, _<_}
 use mathlib.Core.Path.{_≡_, refl, sym, ap, _∙_}
@@ -14,14 +15,15 @@ use Rattle.soup.specs.Read.{unbroken}
 use Rattle.soup.proofs.Linefeed.{append-unbroken}
 use Rattle.soup_pieces.specs.Machine.{refusal, empty, usedUp, given, judge, first}
 use Rattle.soup_pieces.specs.Taking.{takenOf, standing, Answered}
-use Rattle.soup_pieces.specs.Steps.{Line, emptyPieces, closedOf, closed}
+use Rattle.soup_pieces.specs.Closing.{Line, emptyPieces, closedOf, closed}
 use Rattle.soup_pieces.specs.declared.Taken.the-variants as takes
 use Rattle.soup_pieces.proofs.Stretches.{first-none, holding, lineGiven, kept-on, closes, overruns}
 use Rattle.soup_pieces.proofs.Searches.{parts-none, unbroken-before, linefeed-there, part-is}
 use Rattle.soup_pieces.proofs.Closes.{ends-line}
 
 -- the answer to a line that is handed out
-line-answered : (next : ℕ) (piece d left : List ℕ) (place : ℕ) (v : Verdict Packet) → place ≡ length piece - length left → closedOf next d place v ≡ takenOf piece (taken (lineGiven next d left v))
+line-answered : (next : ℕ) (piece d left : List ℕ) (place : ℕ) (v : Verdict Packet) → place ≡ length piece - length left
+    → closedOf next d place v ≡ takenOf piece (taken (lineGiven next d left v))
 line-answered next piece d left place (refused why) e = rw e
 line-answered next piece d left place (taken p) e = rw e
 
@@ -29,7 +31,8 @@ line-standing : (next : ℕ) (d left : List ℕ) (v : Verdict Packet) → standi
 line-standing next d left (refused why) = refl
 line-standing next d left (taken p) = refl
 
-module _ (buffer piece : List ℕ) (kept from next : ℕ) (few : kept ≤ 4097) (long : 4098 ≤ length buffer) (whole : unbroken (take kept buffer) ≡ true) (inside : from ≤ length piece) where
+module _ (buffer piece : List ℕ) (kept from next : ℕ) (few : kept ≤ 4097) (long : 4098 ≤ length buffer)
+    (whole : unbroken (take kept buffer) ≡ true) (inside : from ≤ length piece) where
   abbrev K : List ℕ
   K = take kept buffer
 
@@ -66,10 +69,12 @@ module _ (buffer piece : List ℕ) (kept from next : ℕ) (few : kept ≤ 4097) 
 
     pub is-line : Line (K ++ take (suc j) w)
     is-line =
-        rw line-is (ends-line (K ++ take j w) (append-unbroken K (take j w) whole u) (omega (arith, length-stands j (omega arith) (omega arith))))
+        rw line-is (ends-line (K ++ take j w) (append-unbroken K (take j w) whole u)
+        (omega (arith, length-stands j (omega arith) (omega arith))))
 
     -- the bytes up to it are a line, which is handed out or refused
-    pub line-ends : (place : ℕ) → place ≡ from + suc j → Answered (taken (first (holding next K) w)) buffer piece (closed (K ++ take (suc j) w) next place) (copied (suc j))
+    pub line-ends : (place : ℕ) → place ≡ from + suc j → Answered (taken (first (holding next K) w)) buffer piece
+        (closed (K ++ take (suc j) w) next place) (copied (suc j))
     unfolding closed
     line-ends place p =
         let d = K ++ take (suc j) w in
@@ -77,7 +82,8 @@ module _ (buffer piece : List ℕ) (kept from next : ℕ) (few : kept ≤ 4097) 
         let left = drop (suc j) w in
         let split : w ≡ take j w ++ 10 ∷ left = split-at w j 0 h ∙ rw e in
         let goes : first (holding next K) w ≡ lineGiven next d left v =
-        ap (first (holding next K)) split ∙ closes next K (take j w) left u (omega (arith, length-K, length-take-le j w (omega arith))) ∙ rw (← line-is) in
+        ap (first (holding next K)) split ∙ closes next K (take j w) left u (omega (arith, length-K, length-take-le j w (omega arith)))
+        ∙ rw (← line-is) in
         let l : length left ≡ length w - suc j = length-drop (suc j) w in
         record {
           answer = rw goes (line-answered next piece d left place v (omega (arith, length-w)));
@@ -86,7 +92,8 @@ module _ (buffer piece : List ℕ) (kept from next : ℕ) (few : kept ≤ 4097) 
 
   -- ---- no linefeed among all that is left of the piece, and it fits
 
-  pub piece-ends : unbroken w ≡ true → kept + length w ≤ 4097 → Answered (taken (first (holding next K) w)) buffer piece (takes.UsedUp (record { kept = kept + length w; dropping = false; next = record { 0 = next } })) (copied (length w))
+  pub piece-ends : unbroken w ≡ true → kept + length w ≤ 4097 → Answered (taken (first (holding next K) w)) buffer piece
+      (takes.UsedUp (record { kept = kept + length w; dropping = false; next = record { 0 = next } })) (copied (length w))
   unfolding first
   piece-ends u s =
       let goes : first (holding next K) w ≡ usedUp (holding next (K ++ w)) =
@@ -97,7 +104,8 @@ module _ (buffer piece : List ℕ) (kept from next : ℕ) (few : kept ≤ 4097) 
 
   -- ---- no linefeed up to the 4,098th byte
 
-  pub overruns-there : (m : ℕ) → kept + m ≡ 4097 → m < length w → unbroken (take (suc m) w) ≡ true → (place : ℕ) → place ≡ from + suc m → Answered (taken (first (holding next K) w)) buffer piece (takes.Unfit 2 4098 place (emptyPieces true next)) (copied (suc m))
+  pub overruns-there : (m : ℕ) → kept + m ≡ 4097 → m < length w → unbroken (take (suc m) w) ≡ true → (place : ℕ) → place ≡ from + suc m
+      → Answered (taken (first (holding next K) w)) buffer piece (takes.Unfit 2 4098 place (emptyPieces true next)) (copied (suc m))
   overruns-there m e h u place p =
       let b = getD w m 0 in
       let left = drop (suc m) w in
@@ -115,7 +123,8 @@ module _ (buffer piece : List ℕ) (kept from next : ℕ) (few : kept ≤ 4097) 
 
   -- ---- as the code looks for a linefeed: among as many bytes as are left, or as there is room for
 
-  module _ (most found : ℕ) (m : most ≡ min (length piece - from) (4098 - kept)) (at : found ≡ from + indexOf 10 (slice from (from + most) piece)) where
+  module _ (most found : ℕ) (m : most ≡ min (length piece - from) (4098 - kept))
+      (at : found ≡ from + indexOf 10 (slice from (from + most) piece)) where
     abbrev j : ℕ
     j = indexOf 10 (take most w)
 
@@ -150,21 +159,25 @@ module _ (buffer piece : List ℕ) (kept from next : ℕ) (few : kept ≤ 4097) 
       pub found-line : Line (take (kept + size) (copied size))
       found-line = rw front (is-line j (omega (arith, near, length-w)) before here (omega (arith, near)))
 
-      pub answers-line : Answered (taken (first (holding next K) w)) buffer piece (closed (take (kept + size) (copied size)) next (found + 1)) (copied size)
+      pub answers-line : Answered (taken (first (holding next K) w)) buffer piece
+          (closed (take (kept + size) (copied size)) next (found + 1)) (copied size)
       answers-line =
-          rw (front, size-is) (line-ends j (omega (arith, near, length-w)) before here (omega (arith, near)) (found + 1) (omega (arith, at-j)))
+          rw (front, size-is) (line-ends j (omega (arith, near, length-w)) before here (omega (arith, near)) (found + 1)
+          (omega (arith, at-j)))
 
     module _ (h : from + most ≤ found) where
       all-before : unbroken (take most w) ≡ true
       all-before = rw (take-all j (take most w) (omega (arith, at-j, length-most))) at none-before
 
-      pub answers-end : length piece - from < 4098 - kept → Answered (taken (first (holding next K) w)) buffer piece (takes.UsedUp (record { kept = kept + most; dropping = false; next = record { 0 = next } })) (copied most)
+      pub answers-end : length piece - from < 4098 - kept → Answered (taken (first (holding next K) w)) buffer piece
+          (takes.UsedUp (record { kept = kept + most; dropping = false; next = record { 0 = next } })) (copied most)
       answers-end s =
           let e : most ≡ length w = omega (arith, length-w) in
           let u : unbroken w ≡ true = rw (e, take-all (length w) w (omega arith)) at all-before in
           rw e (piece-ends u (omega (arith, length-w)))
 
-      pub answers-overlong : 4098 - kept ≤ length piece - from → Answered (taken (first (holding next K) w)) buffer piece (takes.Unfit 2 4098 (from + most) (emptyPieces true next)) (copied most)
+      pub answers-overlong : 4098 - kept ≤ length piece - from → Answered (taken (first (holding next K) w)) buffer piece
+          (takes.Unfit 2 4098 (from + most) (emptyPieces true next)) (copied most)
       answers-overlong s =
           let e : most ≡ suc (4097 - kept) = omega arith in
           rw e (overruns-there (4097 - kept) (omega arith) (omega (arith, length-w)) (rw e at all-before) (from + suc (4097 - kept)) refl)

@@ -26,7 +26,8 @@ module _ (pieces : Pieces) (buffer : List ℕ) where
   unfolding hangs
   too-many h k = rw (le-leb 4098 (length buffer) h, lt-leb (pieces .kept) 4097 (omega arith))
 
-  pub by-rest : (b : Bool) → 4098 ≤ length buffer → pieces .kept < 4098 → b ≡ (if pieces .dropping then pieces .kept is 0 else unbroken (take (pieces .kept) buffer)) → b ≡ hangs pieces buffer
+  pub by-rest : (b : Bool) → 4098 ≤ length buffer → pieces .kept < 4098
+      → b ≡ (if pieces .dropping then pieces .kept is 0 else unbroken (take (pieces .kept) buffer)) → b ≡ hangs pieces buffer
   unfolding hangs
   by-rest b h k e = rw (le-leb 4098 (length buffer) h, le-leb (pieces .kept) 4097 (omega arith)) e
 
@@ -61,4 +62,5 @@ module _ (pieces : Pieces) (buffer : List ℕ) where
 
   pub hangs-so : Hanging → hangs pieces buffer ≡ true
   hangs-so h =
-      sym (by-rest true (h .long) (omega (arith, h .few)) (by-test (pieces .dropping) (λ t. rw t (sym (eq-eqb (pieces .kept) 0 (h .none t)))) (λ t. rw t (sym (h .whole)))))
+      sym (by-rest true (h .long) (omega (arith, h .few))
+      (by-test (pieces .dropping) (λ t. rw t (sym (eq-eqb (pieces .kept) 0 (h .none t)))) (λ t. rw t (sym (h .whole)))))

@@ -1,4 +1,5 @@
--- An overlong packet is refused once, at its 4,098th byte; the rest up to and with its linefeed is dropped, and what follows is read as usual.
+-- An overlong packet is refused once, at its 4,098th byte; the rest up to and with its linefeed is dropped, and what follows is read as
+-- usual.
 -- Assumes nothing.
 use Prim.Native.Nat.{ℕ, _≤_}
 use mathlib.Core.Path.{_≡_, sym, ap, _∙_}
@@ -14,26 +15,35 @@ use Rattle.soup_pieces.proofs.Stretches.{holding, kept-on, overruns, dr
 
 module _ (next : ℕ) where
   -- up to 4,097 bytes without a linefeed are kept
-  pub not-before : (t : List ℕ) → unbroken t ≡ true → length t ≤ 4097 → (handed (outcomes (empty false next) t) ≡ []) × (after (empty false next) t ≡ holding next t)
+  pub not-before : (t : List ℕ) → unbroken t ≡ true → length t ≤ 4097 → (handed (outcomes (empty false next) t) ≡ [])
+      × (after (empty false next) t ≡ holding next t)
   unfolding first
   not-before t u h =
-      first-used (empty false next) t (holding next t) (ap (first (empty false next)) (sym (append-nil t)) ∙ kept-on next [] t [] u (omega arith))
+      first-used (empty false next) t (holding next t)
+      (ap (first (empty false next)) (sym (append-nil t)) ∙ kept-on next [] t [] u (omega arith))
 
   -- the 4,098th is refused with them
-  pub at-that-byte : (t : List ℕ) (b : ℕ) → unbroken t ≡ true → length t ≡ 4097 → (b ≡ 10 → ⊥) → (handed (outcomes (empty false next) (t ++ b ∷ [])) ≡ refusal (t ++ b ∷ []) 2 ∷ []) × (after (empty false next) (t ++ b ∷ []) ≡ empty true next)
+  pub at-that-byte : (t : List ℕ) (b : ℕ) → unbroken t ≡ true → length t ≡ 4097 → (b ≡ 10 → ⊥)
+      → (handed (outcomes (empty false next) (t ++ b ∷ [])) ≡ refusal (t ++ b ∷ []) 2 ∷ [])
+      × (after (empty false next) (t ++ b ∷ []) ≡ empty true next)
   unfolding outcomes after handed
   at-that-byte t b u l n = first-given (empty false next) (t ++ b ∷ []) _ (empty true next) [] (overruns next [] t [] b u n (omega arith))
 
   -- the rest is dropped
-  pub rest-dropped : (r : List ℕ) → unbroken r ≡ true → (handed (outcomes (empty true next) (r ++ 10 ∷ [])) ≡ []) × (after (empty true next) (r ++ 10 ∷ []) ≡ empty false next)
+  pub rest-dropped : (r : List ℕ) → unbroken r ≡ true → (handed (outcomes (empty true next) (r ++ 10 ∷ [])) ≡ [])
+      × (after (empty true next) (r ++ 10 ∷ []) ≡ empty false next)
   unfolding first
   rest-dropped r u = first-used (empty true next) (r ++ 10 ∷ []) (empty false next) (drops-out next r [] u)
 
   -- so of all of it nothing but that refusal is handed out, and then the desk is as before it
   pub refused-once : (t r : List ℕ) (b : ℕ) → unbroken t ≡ true → length t ≡ 4097 → (b ≡ 10 → ⊥) → unbroken r ≡ true
-      → (handed (outcomes (empty false next) (t ++ b ∷ [] ++ (r ++ 10 ∷ []))) ≡ refusal (t ++ b ∷ []) 2 ∷ []) × (after (empty false next) (t ++ b ∷ [] ++ (r ++ 10 ∷ [])) ≡ empty false next)
+      → (handed (outcomes (empty false next) (t ++ b ∷ [] ++ (r ++ 10 ∷ []))) ≡ refusal (t ++ b ∷ []) 2 ∷ [])
+      × (after (empty false next) (t ++ b ∷ [] ++ (r ++ 10 ∷ [])) ≡ empty false next)
   refused-once t r b u l n v =
       let d = t ++ b ∷ [] in
       let o = at-that-byte t b u l n in
-      let p = rest-dropped r v in
-      (rw (handed-cut (empty false next) d (r ++ 10 ∷ []), o .0, o .1, p .0), rw (after-cut (empty false next) d (r ++ 10 ∷ []), o .1, p .1))
+      let p = rest-dropped r v in (
+        rw (handed-cut (empty false next) d (r ++ 10 ∷ []), o .0, o .1, p .0),
+        rw
+            (after-cut (empty false next) d (r ++ 10 ∷ []), o .1, p .1),
+      )

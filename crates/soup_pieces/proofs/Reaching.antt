@@ -5,7 +5,8 @@ use mathlib.Core.Path.{_≡_, refl, ap, _∙_}
 use mathlib.Core.List.{List, [], _∷_, _++_}
 use native.Mathlib.Omega.{arith}
 use lib.ListN.{length}
-use Rattle.soup_pieces.specs.Machine.{State, Handed, Outcome, gives, Eaten, eat, outcomes, after, handed, First, usedUp, given, unlessGiven, first}
+use Rattle.soup_pieces.specs.Machine.{State, Handed, Outcome, gives, Eaten, eat, outcomes, after, handed, First, usedUp, given}
+use Rattle.soup_pieces.specs.Machine.{unlessGiven, first}
 use Rattle.soup_pieces.proofs.Cutting.{handed-cut, after-cut}
 use Rattle.soup_pieces.proofs.Eats as eats
 
@@ -23,7 +24,8 @@ Goes s bs (usedUp t) = (handed (outcomes s bs) ≡ []) × (after s bs ≡ t)
 Goes s bs (given h t left) = As-far s bs h t left
 
 -- one byte in front that hands nothing out
-further : (s : State) (b : ℕ) (bs : List ℕ) → ((os : List Outcome) → handed (eat s b .outcome ∷ os) ≡ handed os) → (f : First) → Goes (eat s b .after) bs f → Goes s (b ∷ bs) f
+further : (s : State) (b : ℕ) (bs : List ℕ) → ((os : List Outcome) → handed (eat s b .outcome ∷ os) ≡ handed os) → (f : First)
+    → Goes (eat s b .after) bs f → Goes s (b ∷ bs) f
 unfolding outcomes after
 further s b bs n (usedUp t) g = (n (outcomes (eat s b .after) bs) ∙ g .0, g .1)
 further s b bs n (given h t left) g = record {
@@ -36,15 +38,24 @@ further s b bs n (given h t left) g = record {
 }
 
 -- one byte with which something is handed out
-here : (s : State) (b : ℕ) (bs : List ℕ) (h : Handed) (t : State) → eat s b ≡ record { outcome = gives h; after = t } → t .kept ≡ [] → As-far s (b ∷ bs) h t bs
+here : (s : State) (b : ℕ) (bs : List ℕ) (h : Handed) (t : State) → eat s b ≡ record { outcome = gives h; after = t } → t .kept ≡ []
+    → As-far s (b ∷ bs) h t bs
 unfolding outcomes after handed
-here s b bs h t e k = record { eaten = b ∷ []; some = omega arith; cut = refl; gave = rw e; then = ap (λ (x : Eaten). x .after) e; empty = k }
+here s b bs h t e k = record {
+  eaten = b ∷ [];
+  some = omega arith;
+  cut = refl;
+  gave = rw e;
+  then = ap (λ (x : Eaten). x .after) e;
+  empty = k;
+}
 
 pub goes : (s : State) (bs : List ℕ) → Goes s bs (first s bs)
 unfolding first outcomes after handed
 goes s [] = (refl, refl)
 goes s (b ∷ bs) = by (eat s b) refl (eats.eats s b) (goes (eat s b .after) bs) where
-  by : (x : Eaten) → eat s b ≡ x → eats.Eats s b x → Goes (eat s b .after) bs (first (eat s b .after) bs) → Goes s (b ∷ bs) (unlessGiven (eat s b .outcome) (eat s b .after) bs (first (eat s b .after) bs))
+  by : (x : Eaten) → eat s b ≡ x → eats.Eats s b x → Goes (eat s b .after) bs (first (eat s b .after) bs)
+      → Goes s (b ∷ bs) (unlessGiven (eat s b .outcome) (eat s b .after) bs (first (eat s b .after) bs))
   by x q (eats.dropped _) g = rw q (rw q at (further s b bs (λ os. rw q) (first (eat s b .after) bs) g))
   by x q (eats.kept _ _ _) g = rw q (rw q at (further s b bs (λ os. rw q) (first (eat s b .after) bs) g))
   by x q (eats.handed _ _ p j) g = rw q (here s b bs _ _ q refl)
@@ -52,12 +63,14 @@ goes s (b ∷ bs) = by (eat s b) refl (eats.eats s b) (goes (eat s b .after) bs)
   by x q (eats.overlong _ _ l) g = rw q (here s b bs _ _ q refl)
 
 -- what is handed out after that, and the state in the end, are those of the rest
-pub then-on : {s : State} {bs : List ℕ} {h : Handed} {t : State} {left : List ℕ} → As-far s bs h t left → (handed (outcomes s bs) ≡ h ∷ handed (outcomes t left)) × (after s bs ≡ after t left)
+pub then-on : {s : State} {bs : List ℕ} {h : Handed} {t : State} {left : List ℕ} → As-far s bs h t left
+    → (handed (outcomes s bs) ≡ h ∷ handed (outcomes t left)) × (after s bs ≡ after t left)
 then-on {s} {bs} {h} {t} {left} g =
     (rw (g .cut, handed-cut s (g .eaten) left, g .then, g .gave), rw (g .cut, after-cut s (g .eaten) left, g .then))
 
 -- the same by how far a call goes
-pub first-given : (s : State) (bs : List ℕ) (h : Handed) (t : State) (left : List ℕ) → first s bs ≡ given h t left → (handed (outcomes s bs) ≡ h ∷ handed (outcomes t left)) × (after s bs ≡ after t left)
+pub first-given : (s : State) (bs : List ℕ) (h : Handed) (t : State) (left : List ℕ) → first s bs ≡ given h t left
+    → (handed (outcomes s bs) ≡ h ∷ handed (outcomes t left)) × (after s bs ≡ after t left)
 first-given s bs h t left e = then-on (rw e at (goes s bs))
 
 pub first-used : (s : State) (bs : List ℕ) (t : State) → first s bs ≡ usedUp t → (handed (outcomes s bs) ≡ []) × (after s bs ≡ t)

@@ -1,5 +1,5 @@
--- The search for a linefeed: none stands before the place that it finds, and one stands there, unless it is the end; and where none is among the first bytes,
--- it may begin behind them.
+-- The search for a linefeed: none stands before the place that it finds, and one stands there, unless it is the end; and where none is
+-- among the first bytes, it may begin behind them.
 -- Assumes nothing.
 use Prim.Native.Nat.{ℕ, suc, _+_, _-_, _≤_, _<_}
 use mathlib.Core.Path.{_≡_, refl, sym, ap, _∙_}
@@ -46,11 +46,13 @@ unbroken-append (c ∷ a) b = by-test (eqb c 10) (λ t. rw t) (λ t. rw t (unbro
 pub parts-none : (a b : List ℕ) → unbroken (a ++ b) ≡ true → (unbroken a ≡ true) × (unbroken b ≡ true)
 parts-none a b u = both (unbroken a) (unbroken b) (sym (unbroken-append a b) ∙ u)
 
-pub pair : (s : List ℕ) (i : ℕ) → i + 2 ≤ length s → not (eqb (getD s i 0) 10) && not (eqb (getD s (i + 1) 0) 10) ≡ unbroken (take 2 (drop i s))
+pub pair : (s : List ℕ) (i : ℕ) → i + 2 ≤ length s → not (eqb (getD s i 0) 10) && not (eqb (getD s (i + 1) 0) 10) ≡ unbroken
+    (take 2 (drop i s))
 unfolding unbroken
 pair s i h = rw (drop-cons s i 0 (omega arith), drop-cons s (suc i) 0 (omega arith), add-one i, and-true)
 
-pub halves : (s : List ℕ) (i m : ℕ) → unbroken (take (m + m) (drop i s)) ≡ unbroken (take m (drop i s)) && unbroken (take m (drop (i + m) s))
+pub halves : (s : List ℕ) (i m : ℕ) → unbroken (take (m + m) (drop i s)) ≡ unbroken (take m (drop i s)) && unbroken
+    (take m (drop (i + m) s))
 halves s i m = rw (take-add m m (drop i s), drop-drop m i s) (unbroken-append (take m (drop i s)) (take m (drop (i + m) s)))
 
 -- ---- behind the first bytes
@@ -62,15 +64,24 @@ slice-split s from at to f h l =
     let t = take to s in
     let n : length t ≡ to = length-take-le to s l in
     let front : take at t ≡ take at s = take-take at to s h in
-    ap (drop from) (sym (take-append-drop at t)) ∙ drop-append-le from (take at t) (drop at t) (omega (arith, length-take-le at t (omega arith))) ∙ rw front
+    ap (drop from) (sym (take-append-drop at t)) ∙ drop-append-le from (take at t) (drop at t)
+    (omega (arith, length-take-le at t (omega arith))) ∙ rw front
 
 pub unbroken-none-yet : (s : List ℕ) (from : ℕ) → unbroken (slice from from s) ≡ true
 unfolding slice unbroken
 unbroken-none-yet s from = rw (drop-of-length-le (take from s) {i = from} (omega (arith, length-take from s)))
 
-pub eight-more : (s : List ℕ) (from at to : ℕ) → from ≤ at → at + 8 ≤ to → to ≤ length s → unbroken (slice from at s) ≡ true → unbroken (take 8 (drop at s)) ≡ true → unbroken (slice from (at + 8) s) ≡ true
+pub eight-more : (s : List ℕ) (from at to : ℕ) → from ≤ at → at + 8 ≤ to → to ≤ length s → unbroken (slice from at s) ≡ true
+    → unbroken (take 8 (drop at s)) ≡ true → unbroken (slice from (at + 8) s) ≡ true
 eight-more s from at to f h l u e =
-    rw (slice-split s from at (at + 8) f (omega arith) (omega arith), unbroken-append (slice from at s) (slice at (at + 8) s), part-is at 8 s (omega arith), u, e)
+    rw (
+      slice-split s from at (at + 8) f (omega arith) (omega arith),
+      unbroken-append (slice from at s) (slice at (at + 8) s),
+      part-is at 8
+          s (omega arith),
+      u,
+      e,
+    )
 
 past-none : (a b : List ℕ) → unbroken a ≡ true → indexOf 10 (a ++ b) ≡ length a + indexOf 10 b
 unfolding unbroken indexOf indexAfter
@@ -80,7 +91,8 @@ past-none (c ∷ a) b u =
     (λ t. absurd (true≢false (sym (rw t at u))))
     (λ t. rw (t, past-none a b (rw t at u)) (omega arith))
 
-pub found-behind : (s : List ℕ) (from at to found : ℕ) → from ≤ at → at ≤ to → to ≤ length s → unbroken (slice from at s) ≡ true → found ≡ at + indexOf 10 (slice at to s) → found ≡ from + indexOf 10 (slice from to s)
+pub found-behind : (s : List ℕ) (from at to found : ℕ) → from ≤ at → at ≤ to → to ≤ length s → unbroken (slice from at s) ≡ true
+    → found ≡ at + indexOf 10 (slice at to s) → found ≡ from + indexOf 10 (slice from to s)
 unfolding slice
 found-behind s from at to found f h l u e =
     let n : length (slice from at s) ≡ at - from = length-drop from (take at s) ∙ rw (length-take-le at s (omega arith)) in

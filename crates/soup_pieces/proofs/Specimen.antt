@@ -1,4 +1,5 @@
--- A stream at bytes: a message before Login Accepted, Login Accepted from number 1, a message, a heartbeat, a second Login Accepted, a message.
+-- A stream at bytes: a message before Login Accepted, Login Accepted from number 1, a message, a heartbeat, a second Login Accepted, a
+-- message.
 -- Assumes nothing.
 use Prim.Native.Nat.{ℕ}
 use mathlib.Core.Path.{_≡_, refl}
@@ -37,7 +38,8 @@ pub comes-out : handed (outcomes (empty false 0) fed)
     ∷ refusal accepted 16
     ∷ packet message (sequenced (72 ∷ 73 ∷ [])) 2
     ∷ []
-unfolding outcomes handed eat judge read acceptOf unbroken spacesThenText text letterOrDigit blank wellFormed valueOf trimmed digits digit spelt
+unfolding outcomes handed eat judge read acceptOf unbroken spacesThenText text letterOrDigit blank wellFormed valueOf trimmed digits digit
+    spelt
 comes-out = refl
 
 -- an S has begun, and the message that it is will be number 3

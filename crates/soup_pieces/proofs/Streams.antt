@@ -13,8 +13,9 @@ use Rattle.wire.proofs.Checks.{all-passed, passed-all, not-both, chosen}
 use Rattle.soup.specs.Packet.{Packet, write, Fit}
 use Rattle.soup.specs.Read.{last, front, opening, lineChecks, sizedChecks, byType, read}
 use Rattle.soup.proofs.Exact.{written-is-read}
-use Rattle.soup_pieces.specs.Machine.{Handed, packet, roleOf, turnChecks, numberOf, nextAfter, judge, empty, first, outcomes, after, handed}
-use Rattle.soup_pieces.specs.Steps.{Line}
+use Rattle.soup_pieces.specs.Machine.{Handed, packet, roleOf, turnChecks, numberOf, nextAfter, judge, empty, first, outcomes, after}
+use Rattle.soup_pieces.specs.Machine.{handed}
+use Rattle.soup_pieces.specs.Closing.{Line}
 use Rattle.soup_pieces.proofs.Closes.{not-empty}
 use Rattle.soup_pieces.proofs.Cutting.{handed-cut}
 use Rattle.soup_pieces.proofs.Reaching.{first-given}
@@ -62,13 +63,16 @@ module _ (next : ℕ) (p : Packet) (f : Fit p) (t : Passed (turnChecks next (rol
   unfolding judge
   judged = rw (written-is-read p f) (passed-all (turnChecks next (roleOf p)) (taken p) t)
 
-  pub comes-out : (handed (outcomes (empty false next) (write p)) ≡ packet (write p) p (numberOf next (roleOf p)) ∷ []) × (after (empty false next) (write p) ≡ empty false (nextAfter next (roleOf p)))
+  pub comes-out : (handed (outcomes (empty false next) (write p)) ≡ packet (write p) p (numberOf next (roleOf p)) ∷ [])
+      × (after (empty false next) (write p) ≡ empty false (nextAfter next (roleOf p)))
   unfolding outcomes after handed
   comes-out =
       let d = write p in
       let l = taken-line d p (written-is-read p f) in
       let e = split-line d l in
-      first-given (empty false next) d _ _ [] (ap (first (empty false next)) (sym e) ∙ closes next [] (front d) [] (l .whole) (omega (arith, length-take-le (length d - 1) d (omega arith), l .short)) ∙ rw (e, judged))
+      first-given (empty false next) d _ _ []
+      (ap (first (empty false next)) (sym e) ∙ closes next [] (front d) [] (l .whole)
+      (omega (arith, length-take-le (length d - 1) d (omega arith), l .short)) ∙ rw (e, judged))
 
 -- ---- one behind the other
 
@@ -91,4 +95,5 @@ unfolding outcomes handed
 all-come-out next [] t = refl
 all-come-out next (p ∷ ps) t =
     let c = comes-out next p (t .0) (t .1) in
-    rw (handed-cut (empty false next) (write p) (stream ps), c .0, c .1) (ap (λ (hs : List Handed). packet (write p) p (numberOf next (roleOf p)) ∷ hs) (all-come-out (nextAfter next (roleOf p)) ps (t .2)))
+    rw (handed-cut (empty false next) (write p) (stream ps), c .0, c .1)
+    (ap (λ (hs : List Handed). packet (write p) p (numberOf next (roleOf p)) ∷ hs) (all-come-out (nextAfter next (roleOf p)) ps (t .2)))

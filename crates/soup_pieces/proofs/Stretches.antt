@@ -1,5 +1,5 @@
--- A stretch of bytes without a linefeed is kept, byte by byte, up to the linefeed that ends it, the 4,098th byte, or the end of what was fed;
--- while an overlong packet is dropped, it is dropped.
+-- A stretch of bytes without a linefeed is kept, byte by byte, up to the linefeed that ends it, the 4,098th byte, or the end of what was
+-- fed; while an overlong packet is dropped, it is dropped.
 -- Assumes nothing.
 use Prim.Native.Nat.{ℕ, suc, _+_, _≤_, _<_}
 use mathlib.Core.Path.{_≡_, refl, ap, _∙_}
@@ -13,7 +13,8 @@ use Rattle.wire.specs.Checks.{Verdict, refused, taken}
 use Rattle.wire.proofs.Tests.{and-left, and-right}
 use Rattle.soup.specs.Packet.{Packet}
 use Rattle.soup.specs.Read.{unbroken}
-use Rattle.soup_pieces.specs.Machine.{State, packet, refusal, keeps, gives, roleOf, judge, numberOf, nextAfter, empty, ended, eat, First, given, first}
+use Rattle.soup_pieces.specs.Machine.{State, packet, refusal, keeps, gives, roleOf, judge, numberOf, nextAfter, empty, ended, eat}
+use Rattle.soup_pieces.specs.Machine.{First, given, first}
 
 -- what the first byte of an unbroken stretch is not, and that the rest is unbroken
 pub first-none : (b : ℕ) (t : List ℕ) → unbroken (b ∷ t) ≡ true → b ≡ 10 → ⊥
@@ -39,7 +40,8 @@ module _ (next : ℕ) where
     unfolding eat
     eat-kept n h = rw (ne-eqb b 10 n, ne-eqb (length (k ++ b ∷ [])) 4098 (λ e. omega (arith, one-more)))
 
-    eat-overlong : (b ≡ 10 → ⊥) → length k ≡ 4097 → eat (holding k) b ≡ record { outcome = gives (refusal (k ++ b ∷ []) 2); after = empty true next }
+    eat-overlong : (b ≡ 10 → ⊥) → length k ≡ 4097
+        → eat (holding k) b ≡ record { outcome = gives (refusal (k ++ b ∷ []) 2); after = empty true next }
     unfolding eat
     eat-overlong n h = rw (ne-eqb b 10 n, eq-eqb (length (k ++ b ∷ [])) 4098 (omega (arith, one-more)))
 
@@ -49,7 +51,8 @@ module _ (next : ℕ) where
 
   -- ---- a stretch
 
-  pub kept-on : (k t bs : List ℕ) → unbroken t ≡ true → length k + length t ≤ 4097 → first (holding k) (t ++ bs) ≡ first (holding (k ++ t)) bs
+  pub kept-on : (k t bs : List ℕ) → unbroken t ≡ true → length k + length t ≤ 4097 → first (holding k) (t ++ bs) ≡ first (holding (k ++ t))
+      bs
   unfolding first
   kept-on k [] bs u h = rw append-nil
   kept-on k (b ∷ t) bs u h =
@@ -63,7 +66,8 @@ module _ (next : ℕ) where
   lineGiven d bs (taken p) = given (packet d p (numberOf next (roleOf p))) (empty false (nextAfter next (roleOf p))) bs
 
   -- a stretch and the linefeed that ends it
-  pub closes : (k t bs : List ℕ) → unbroken t ≡ true → length k + length t ≤ 4097 → first (holding k) (t ++ 10 ∷ bs) ≡ lineGiven (k ++ t ++ 10 ∷ []) bs (judge next (k ++ t ++ 10 ∷ []))
+  pub closes : (k t bs : List ℕ) → unbroken t ≡ true → length k + length t ≤ 4097 → first (holding k) (t ++ 10 ∷ bs) ≡ lineGiven
+      (k ++ t ++ 10 ∷ []) bs (judge next (k ++ t ++ 10 ∷ []))
   unfolding first
   closes k t bs u h = kept-on k t (10 ∷ bs) u h ∙ by (judge next (k ++ t ++ 10 ∷ [])) refl where
     by : (v : Verdict Packet) → judge next (k ++ t ++ 10 ∷ []) ≡ v → first (holding (k ++ t)) (10 ∷ bs) ≡ lineGiven (k ++ t ++ 10 ∷ []) bs v
@@ -71,7 +75,8 @@ module _ (next : ℕ) where
     by (taken p) e = rw (eat-line (k ++ t), e)
 
   -- one whose last byte is the 4,098th
-  pub overruns : (k t bs : List ℕ) (b : ℕ) → unbroken t ≡ true → (b ≡ 10 → ⊥) → length k + length t ≡ 4097 → first (holding k) (t ++ b ∷ bs) ≡ given (refusal (k ++ t ++ b ∷ []) 2) (empty true next) bs
+  pub overruns : (k t bs : List ℕ) (b : ℕ) → unbroken t ≡ true → (b ≡ 10 → ⊥) → length k + length t ≡ 4097
+      → first (holding k) (t ++ b ∷ bs) ≡ given (refusal (k ++ t ++ b ∷ []) 2) (empty true next) bs
   unfolding first
   overruns k t bs b u n h =
       kept-on k t (b ∷ bs) u (omega arith) ∙ rw (eat-overlong (k ++ t) b n (simp length-append (omega arith)))

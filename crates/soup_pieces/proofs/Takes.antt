@@ -51,7 +51,8 @@ module _ (pieces : Pieces) (buffer piece : List ℕ) (place : ℕ) where
 
         dropping-pieces : pieces ≡ piecesOf (empty true (pieces .next .0))
         dropping-pieces = same (pieces .kept) (pieces .dropping) none d where
-          same : (k : ℕ) (b : Bool) → k ≡ 0 → b ≡ true → _≡_ {A = Pieces} (record { kept = k; dropping = b; next = pieces .next }) (record { kept = 0; dropping = true; next = pieces .next })
+          same : (k : ℕ) (b : Bool) → k ≡ 0 → b ≡ true → _≡_ {A = Pieces} (record { kept = k; dropping = b; next = pieces .next })
+              (record { kept = 0; dropping = true; next = pieces .next })
           same k b e t = rw (e, t)
 
         module _ (found : ℕ) (at : found ≡ place + indexOf 10 (slice place (length piece) piece)) where
@@ -73,14 +74,17 @@ module _ (pieces : Pieces) (buffer piece : List ℕ) (place : ℕ) where
                 bytes = rw (goes-on, dropping-state, goes);
               }
 
-          pub dropped : found < length piece → first (stateOf pieces buffer) w ≡ first (holding (pieces .next .0) (take (pieces .kept) buffer)) (drop (found + 1) piece)
+          pub dropped : found < length piece
+              → first (stateOf pieces buffer) w ≡ first (holding (pieces .next .0) (take (pieces .kept) buffer)) (drop (found + 1) piece)
           dropped l =
               let j = indexOf 10 w in
               let k : j < length w = omega (arith, at-w, length-w) in
               let split : w ≡ take j w ++ 10 ∷ drop (suc j) w = split-at w j 0 k ∙ rw (linefeed-there w k) in
               let n : place + suc j ≡ found + 1 = omega (arith, at-w) in
               let there : drop (suc j) w ≡ drop (found + 1) piece = drop-drop (suc j) place piece ∙ rw n in
-              rw (dropping-state, none) (ap (first (empty true (pieces .next .0))) split ∙ drops-out (pieces .next .0) (take j w) (drop (suc j) w) (unbroken-before w) ∙ rw there)
+              rw (dropping-state, none) (ap (first (empty true (pieces .next .0))) split ∙ drops-out (pieces .next .0) (take j w)
+              (drop (suc j) w) (unbroken-before w) ∙ rw there)
 
-      pub kept-still : pieces .dropping ≡ false → first (stateOf pieces buffer) w ≡ first (holding (pieces .next .0) (take (pieces .kept) buffer)) w
+      pub kept-still : pieces .dropping ≡ false
+          → first (stateOf pieces buffer) w ≡ first (holding (pieces .next .0) (take (pieces .kept) buffer)) w
       kept-still d = rw d

@@ -1,4 +1,5 @@
--- States that hang together stay so; and in them nothing is lost: what was handed out, refused, dropped and kept, in order, is what was fed.
+-- States that hang together stay so; and in them nothing is lost: what was handed out, refused, dropped and kept, in order, is what was
+-- fed.
 -- Assumes nothing.
 use Prim.Native.Nat.{ℕ, _+_, _≤_}
 use mathlib.Core.Path.{_≡_, refl, sym, ap, _∙_}

@@ -40,8 +40,10 @@ seen (refusal d why ∷ hs) = aRefusal d why ∷ seen hs
 
 -- calling from a place on, and on from the place in each answer, until the piece is used up
 pub data Calls (entry : Entry) (piece : List ℕ) : Lent → ℕ → List Seen → Lent → Type 0 where
-  usesUp : (l : Lent) (place : ℕ) (after : Pieces) (left : List ℕ) → entry l piece place (takes.UsedUp after) left → Calls entry piece l place [] (record { pieces = after; buffer = left })
-  hands : (l : Lent) (place : ℕ) (says : Reading) (number : Sequence) (bytes next : ℕ) (after : Pieces) (left : List ℕ) (more : List Seen) (end : Lent)
+  usesUp : (l : Lent) (place : ℕ) (after : Pieces) (left : List ℕ) → entry l piece place (takes.UsedUp after) left
+      → Calls entry piece l place [] (record { pieces = after; buffer = left })
+  hands : (l : Lent) (place : ℕ) (says : Reading) (number : Sequence) (bytes next : ℕ) (after : Pieces) (left : List ℕ) (more : List Seen)
+      (end : Lent)
       → entry l piece place (takes.Packet says number bytes next after) left
       → Calls entry piece (record { pieces = after; buffer = left }) next more end
       → Calls entry piece l place (aPacket (take bytes left) says (number .0) ∷ more) end

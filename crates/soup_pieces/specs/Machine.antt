@@ -5,14 +5,16 @@ use mathlib.Core.List.{List, [], _∷_, _++_}
 use mathlib.Core.Bool.{Bool, true, false, not}
 use lib.ListN.{length}
 use Rattle.wire.specs.Checks.{if_then_else_, _is_, _atMost_, Verdict, refused, taken, Check, _else_, checked, _into_}
-use Rattle.soup.specs.Packet.{Packet, debug, accept, reject, sequenced, serverHeartbeat, endOfSession, login, unsequenced, clientHeartbeat, logout}
+use Rattle.soup.specs.Packet.{Packet, debug, accept, reject, sequenced, serverHeartbeat, endOfSession, login, unsequenced, clientHeartbeat}
+use Rattle.soup.specs.Packet.{logout}
 use Rattle.soup.specs.Read.{read}
 
 -- the most bytes of a packet
 abbrev pub longest : ℕ
 longest = 4098
 
--- the bytes of an unfinished packet; whether the rest of an overlong one is being dropped; the number of the next S, 0 before Login Accepted
+-- the bytes of an unfinished packet; whether the rest of an overlong one is being dropped; the number of the next S, 0 before Login
+-- Accepted
 pub record State : Type 0 where
   pub kept : List ℕ
   pub dropping : Bool

@@ -43,7 +43,8 @@ taking pieces buffer piece place =
 abbrev pub takenOf : (piece : List ℕ) → Verdict First → Taken
 takenOf piece (refused n) = takes.Refused n
 takenOf piece (taken (usedUp s)) = takes.UsedUp (piecesOf s)
-takenOf piece (taken (given (packet d p number) s left)) = takes.Packet (packetOf p) (record { 0 = number }) (length d) (length piece - length left) (piecesOf s)
+takenOf piece (taken (given (packet d p number) s left)) = takes.Packet (packetOf p) (record { 0 = number }) (length d)
+    (length piece - length left) (piecesOf s)
 takenOf piece (taken (given (refusal d why) s left)) = takes.Unfit why (length d) (length piece - length left) (piecesOf s)
 
 -- what stands at the buffer's start: what is handed out, or else what is kept

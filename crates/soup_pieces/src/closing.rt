@@ -6,7 +6,7 @@ use soup::reading::Reading;
 use wire::kinds::Sequence;
 use wire::refusal;
 ghost use mathlib.Core.Path.{_≡_};
-ghost use Rattle.soup_pieces.specs.Steps.{Line, closed, emptyPieces, unfit, unnumbered, sequencedFault};
+ghost use Rattle.soup_pieces.specs.Closing.{Line, closed, emptyPieces, unfit, unnumbered, sequencedFault};
 
 // One past the highest number that a message can have.
 const PAST_LAST: u64 = 18446744073709551615;

@@ -32,7 +32,8 @@ pub(crate) fn gather(
     from: usize,
 ) -> Taken
     requires { ⌜ (kept ≤ 4097) × (4098 ≤ length (now buffer)) × (unbroken (take kept (now buffer)) ≡ true) × (from ≤ length (now piece)) ⌝ }
-    ensures { λ r. ⌜ Answered (taken (first (record { kept = take kept (now (buffer .entry)); dropping = false; next = next .0 }) (drop from (now (piece .entry))))) (now (buffer .entry)) (now (piece .entry)) r (now (buffer .exit)) ⌝ }
+    ensures { λ r. ⌜ Answered (taken (first (record { kept = take kept (now (buffer .entry)); dropping = false; next = next .0 })
+        (drop from (now (piece .entry))))) (now (buffer .entry)) (now (piece .entry)) r (now (buffer .exit)) ⌝ }
 {
     let room = line::LONGEST - kept;
     let left = piece.len() - from;

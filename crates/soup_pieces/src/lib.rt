@@ -48,7 +48,8 @@ pub enum Taken {
 }
 
 pub fn take(pieces: Pieces, buffer: &mut [u8], piece: &[u8], place: usize) -> Taken
-    ensures { λ r. ⌜ Answered (taking pieces (now (buffer .entry)) (now (piece .entry)) place) (now (buffer .entry)) (now (piece .entry)) r (now (buffer .exit)) ⌝ }
+    ensures { λ r. ⌜ Answered (taking pieces (now (buffer .entry)) (now (piece .entry)) place) (now (buffer .entry)) (now (piece .entry)) r
+        (now (buffer .exit)) ⌝ }
 {
     if !hangs_together(pieces, buffer) {
         return Taken::Refused(refusal::BROKEN);

@@ -29,17 +29,29 @@ pub number-laid : (x y s : List ℕ) (at number : ℕ) → s ≡ written number 
 number-laid x y s at number e f = rw (f, e, take-all 20 (written number) (omega (arith, length-written number)))
 
 -- `A` and `L`: what each store leaves is x, y, ..., from the zeros l on
-pub accept-laid : (l x y session : List ℕ) (number : ℕ) → length l ≡ 32 → length session ≡ 10 → x ≡ sets (set l 0 65) 1 session → y ≡ sets x 11 (written number) → set y 31 10 ≡ write (accept session number)
+pub accept-laid : (l x y session : List ℕ) (number : ℕ) → length l ≡ 32 → length session ≡ 10 → x ≡ sets (set l 0 65) 1 session
+    → y ≡ sets x 11 (written number) → set y 31 10 ≡ write (accept session number)
 accept-laid l x y session number h s e f =
     let w = written number in
     let m : length (session ++ w) ≡ 30 = simp (length-append, length-written) (omega arith) in
     rw (f, e, sets-after (set l 0 65) 1 10 session w s) (filled l (session ++ w) 65 30 m h)
 
-pub login-laid : (l x y z t user password session : List ℕ) (number : ℕ) → length l ≡ 48 → length user ≡ 6 → length password ≡ 10 → length session ≡ 10 → x ≡ sets (set l 0 76) 1 user → y ≡ sets x 7 password → z ≡ sets y 17 session → t ≡ sets z 27 (written number) → set t 47 10 ≡ write (login user password session number)
+pub login-laid : (l x y z t user password session : List ℕ) (number : ℕ) → length l ≡ 48 → length user ≡ 6 → length password ≡ 10
+    → length session ≡ 10 → x ≡ sets (set l 0 76) 1 user → y ≡ sets x 7 password → z ≡ sets y 17 session → t ≡ sets z 27 (written number)
+    → set t 47 10 ≡ write (login user password session number)
 login-laid l x y z t user password session number h u p s e f g i =
     let w = written number in
     let up : length (user ++ password) ≡ 16 = simp length-append (omega arith) in
     let ups : length (user ++ password ++ session) ≡ 26 = simp length-append (omega arith) in
     let m : length (user ++ password ++ session ++ w) ≡ 46 = simp (length-append, length-written) (omega arith) in
-    rw (i, g, f, e, sets-after (set l 0 76) 1 6 user password u, sets-after (set l 0 76) 1 16 (user ++ password) session up, sets-after (set l 0 76) 1 26 (user ++ password ++ session) w ups)
+    rw (
+      i,
+      g,
+      f,
+      e,
+      sets-after (set l 0 76) 1 6 user password u,
+      sets-after (set l 0 76) 1 16 (user ++ password) session up,
+      sets-after
+          (set l 0 76) 1 26 (user ++ password ++ session) w ups,
+    )
     (filled l (user ++ password ++ session ++ w) 76 46 m h)

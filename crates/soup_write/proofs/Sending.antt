@@ -13,7 +13,8 @@ use lib.ListN.{length}
 use borrow.Author.Tests.{ne-eqb, eqb-true, eqb-false}
 use Rattle.wire.specs.Checks.{if_then_else_, Verdict, refused, taken, checked}
 use Rattle.wire.specs.Reply.{within, settle}
-use Rattle.soup.specs.Packet.{Packet, debug, accept, reject, sequenced, serverHeartbeat, endOfSession, login, unsequenced, clientHeartbeat, logout, line, carries}
+use Rattle.soup.specs.Packet.{Packet, debug, accept, reject, sequenced, serverHeartbeat, endOfSession, login, unsequenced, clientHeartbeat}
+use Rattle.soup.specs.Packet.{logout, line, carries}
 use Rattle.soup.specs.Read.{payload, unbroken, lineChecks, byType}
 use Rattle.soup.specs.Reading.{packetOf, readingOf}
 use Rattle.soup_write.specs.Writing.{sent}
@@ -46,7 +47,8 @@ refused-by (refused m) n e = cc
 refused-by (taken p) n e = absurd (later p (ap place e))
 
 -- it is any other case: the verdict has taken the packet
-pub taken-by : (v : Verdict Packet) (r : Reading) (packet : List ℕ) (room : ℕ) → r ≡ readingOf v → OneOf (1 ∷ 2 ∷ 3 ∷ 4 ∷ 5 ∷ 6 ∷ 7 ∷ 8 ∷ 9 ∷ 10 ∷ []) (place r) → settle v packet room ≡ within room packet
+pub taken-by : (v : Verdict Packet) (r : Reading) (packet : List ℕ) (room : ℕ) → r ≡ readingOf v
+    → OneOf (1 ∷ 2 ∷ 3 ∷ 4 ∷ 5 ∷ 6 ∷ 7 ∷ 8 ∷ 9 ∷ 10 ∷ []) (place r) → settle v packet room ≡ within room packet
 taken-by (refused n) r packet room e k = absurd (miss (1 ∷ 2 ∷ 3 ∷ 4 ∷ 5 ∷ 6 ∷ 7 ∷ 8 ∷ 9 ∷ 10 ∷ []) 0 tt (rw e at k))
 taken-by (taken p) r packet room e k = refl
 
@@ -60,14 +62,16 @@ module _ (kind : ℕ) (s : List ℕ) (room : ℕ) where
   abbrev Decided : Type 0
   Decided = sent (line kind s) room ≡ (if unbroken s then within room (line kind s) else refused 8)
 
-  judged : (p : Packet) → (kind ≡ 10 → ⊥) → settle (checked (lineChecks (line kind s)) (taken p)) (line kind s) room ≡ (if unbroken s then within room (line kind s) else refused 8)
+  judged : (p : Packet) → (kind ≡ 10 → ⊥) → settle (checked (lineChecks (line kind s)) (taken p)) (line kind s)
+      room ≡ (if unbroken s then within room (line kind s) else refused 8)
   unfolding unbroken
   judged p k =
       by-test (unbroken s)
       (λ t. rw (last-line kind s, front-line kind s, ne-eqb kind 10 k, t))
       (λ t. rw (last-line kind s, front-line kind s, ne-eqb kind 10 k, t))
 
-  under : (n : ℕ) (p : Packet) → byType n (line kind s) ≡ checked (lineChecks (line kind s)) (taken p) → eqb n 10 ≡ false → length s ≤ 4096 → eqb kind n ≡ true → Decided
+  under : (n : ℕ) (p : Packet) → byType n (line kind s) ≡ checked (lineChecks (line kind s)) (taken p) → eqb n 10 ≡ false → length s ≤ 4096
+      → eqb kind n ≡ true → Decided
   under n p b z h t =
       let q : kind ≡ n = eqb-true kind n t in
       let l = length-line kind s in
@@ -76,6 +80,7 @@ module _ (kind : ℕ) (s : List ℕ) (room : ℕ) where
   pub payload-decides : carries kind ≡ true → length s ≤ 4096 → Decided
   payload-decides c h =
       ⊎-elim
-      (λ e. ⊎-elim (under 43 (debug (payload (line kind s))) refl refl h) (under 83 (sequenced (payload (line kind s))) refl refl h) (either (eqb kind 43) (eqb kind 83) e))
+      (λ e. ⊎-elim (under 43 (debug (payload (line kind s))) refl refl h) (under 83 (sequenced (payload (line kind s))) refl refl h)
+      (either (eqb kind 43) (eqb kind 83) e))
       (under 85 (unsequenced (payload (line kind s))) refl refl h)
       (either (eqb kind 43 || eqb kind 83) (eqb kind 85) c)

@@ -34,13 +34,16 @@ write-sequenced-is κs a x y s t = same-reply
 write-unsequenced-is : Determined 2 write-unsequenced.ps write-unsequenced.r (List ℕ) (λ κs s. now (s .1 .0)) write-unsequenced-reads.Post
 write-unsequenced-is κs a x y s t = same-reply
 
-write-server-heartbeat-is : Determined 1 write-server-heartbeat.ps write-server-heartbeat.r (List ℕ) (λ κs s. now (s .0)) write-server-heartbeat-reads.Post
+write-server-heartbeat-is : Determined 1 write-server-heartbeat.ps write-server-heartbeat.r (List ℕ) (λ κs s. now (s .0))
+    write-server-heartbeat-reads.Post
 write-server-heartbeat-is κs a x y s t = same-reply
 
-write-end-of-session-is : Determined 1 write-end-of-session.ps write-end-of-session.r (List ℕ) (λ κs s. now (s .0)) write-end-of-session-reads.Post
+write-end-of-session-is : Determined 1 write-end-of-session.ps write-end-of-session.r (List ℕ) (λ κs s. now (s .0))
+    write-end-of-session-reads.Post
 write-end-of-session-is κs a x y s t = same-reply
 
-write-client-heartbeat-is : Determined 1 write-client-heartbeat.ps write-client-heartbeat.r (List ℕ) (λ κs s. now (s .0)) write-client-heartbeat-reads.Post
+write-client-heartbeat-is : Determined 1 write-client-heartbeat.ps write-client-heartbeat.r (List ℕ) (λ κs s. now (s .0))
+    write-client-heartbeat-reads.Post
 write-client-heartbeat-is κs a x y s t = same-reply
 
 write-logout-is : Determined 1 write-logout.ps write-logout.r (List ℕ) (λ κs s. now (s .0)) write-logout-reads.Post

@@ -5,7 +5,8 @@ ghost use mathlib.Core.Bool.{true};
 ghost use lib.ListN.{length};
 ghost use Rattle.names.specs.Names.{nameBytes, userBytes};
 ghost use Rattle.wire.specs.Reply.{Settled};
-ghost use Rattle.soup.specs.Packet.{debug, accept, reject, sequenced, serverHeartbeat, endOfSession, login, unsequenced, clientHeartbeat, logout, line, carries};
+ghost use Rattle.soup.specs.Packet.{debug, accept, reject, sequenced, serverHeartbeat, endOfSession, login, unsequenced, clientHeartbeat};
+ghost use Rattle.soup.specs.Packet.{logout, line, carries};
 ghost use Rattle.soup_write.specs.Writing.{sent, reply};
 use soup::line;
 use soup::reading;
@@ -68,7 +69,8 @@ pub fn write_debug(text: &[u8], out: &mut [u8]) -> Written
 }
 
 pub fn write_accept(session: Name, number: Sequence, out: &mut [u8]) -> Written
-    ensures { λ r. ⌜ Settled (reply (accept (nameBytes session) (number .0)) (length (now (out .entry)))) (now (out .entry)) r (now (out .exit)) ⌝ }
+    ensures { λ r. ⌜ Settled (reply (accept (nameBytes session) (number .0)) (length (now (out .entry)))) (now (out .entry)) r
+        (now (out .exit)) ⌝ }
 {
     let digits = decimal::characters(number.0);
     let mut packet = [0u8; 32];
@@ -111,7 +113,8 @@ pub fn write_login(
     number: Sequence,
     out: &mut [u8],
 ) -> Written
-    ensures { λ r. ⌜ Settled (reply (login (userBytes user) (nameBytes (password .0)) (nameBytes session) (number .0)) (length (now (out .entry)))) (now (out .entry)) r (now (out .exit)) ⌝ }
+    ensures { λ r. ⌜ Settled (reply (login (userBytes user) (nameBytes (password .0)) (nameBytes session) (number .0))
+        (length (now (out .entry)))) (now (out .entry)) r (now (out .exit)) ⌝ }
 {
     let digits = decimal::characters(number.0);
     let mut packet = [0u8; 48];
@@ -125,7 +128,8 @@ pub fn write_login(
 }
 
 pub fn write_unsequenced(message: &[u8], out: &mut [u8]) -> Written
-    ensures { λ r. ⌜ Settled (reply (unsequenced (now (message .entry))) (length (now (out .entry)))) (now (out .entry)) r (now (out .exit)) ⌝ }
+    ensures { λ r. ⌜ Settled (reply (unsequenced (now (message .entry))) (length (now (out .entry)))) (now (out .entry)) r (now (out .exit))
+        ⌝ }
 {
     write_payload(b'U', message, out)
 }

@@ -21,7 +21,7 @@ use Rattle.held.proofs.Hangs.{fits-sound}
 use Rattle.record.specs.Record.{hangs}
 use Rattle.record.specs.declared.Record.{Record}
 use Rattle.record.specs.declared.Session.the-variants.{Memx}
-use Rattle.hearing.specs.Hearing.{messages, hear}
+use Rattle.reports.specs.Reports.{messages, reportOf}
 use Rattle.taking.specs.Room.{ufoRoom}
 use Rattle.taking.specs.Taking.{delivered, outcome, taking}
 use Rattle.taking.proofs.Order.{then-by-these-checks}
@@ -86,9 +86,9 @@ module _ (m : List ℕ) (full : length m ≡ 1470) where
     abbrev packet : List ℕ
     packet = memx.write (memx.messages 1 1 [] (long ∷ []))
 
-    heard : hear (kept .session) packet ≡ taken (messages 1 (long ∷ []))
-    unfolding hear
-    heard = rw (longest-taken 1 1 long (omega arith) (omega arith) (omega arith) b (omega arith))
+    as-reported : reportOf (kept .session) packet ≡ taken (messages 1 (long ∷ []))
+    unfolding reportOf
+    as-reported = rw (longest-taken 1 1 long (omega arith) (omega arith) (omega arith) b (omega arith))
 
     needs : length (frames (delivered kept brimful (messages 1 (long ∷ [])))) ≡ 54584
     unfolding freedFrom run
@@ -97,12 +97,12 @@ module _ (m : List ℕ) (full : length m ≡ 1470) where
     -- With as much as it needs it is taken,
     pub just-enough : (room : ℕ) → 54584 ≤ room → taking kept brimful packet room ≡ taken (outcome kept brimful (messages 1 (long ∷ [])))
     just-enough room l =
-        takes kept brimful packet room (messages 1 (long ∷ [])) kept-hangs (brimful-sound (2 ^ 32 - 3)) heard refl (rw needs l)
+        takes kept brimful packet room (messages 1 (long ∷ [])) kept-hangs (brimful-sound (2 ^ 32 - 3)) as-reported refl (rw needs l)
 
     -- with less it is refused,
     pub lacks-room : (room : ℕ) → room < 54584 → taking kept brimful packet room ≡ refused 9
     lacks-room room l =
-        then-by-these-checks kept brimful packet room (messages 1 (long ∷ [])) heard
+        then-by-these-checks kept brimful packet room (messages 1 (long ∷ [])) as-reported
         ∙ rw (kept-hangs, brimful-sound (2 ^ 32 - 3), needs, lt-leb 54584 room l)
 
     -- so with UFO's room.

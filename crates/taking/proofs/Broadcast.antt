@@ -26,20 +26,20 @@ use Rattle.record.specs.Standing.{State, complete, missing, standing}
 use Rattle.record.specs.declared.Record.{Record}
 use Rattle.record.specs.declared.Session.{Session}
 use Rattle.record.specs.declared.Session.the-variants.{Memx}
-use Rattle.hearing.specs.Hearing.{Report, news, end, owned, ofMemx, hear}
+use Rattle.reports.specs.Reports.{Report, news, end, owned, ofMemx, reportOf}
 use Rattle.taking.specs.Room.{memxRoom}
 use Rattle.taking.specs.Taking.{Taking, reporting, taking}
 use Rattle.taking.proofs.Took.{Took, took}
 
--- what was said of the own session is what was heard
-heard-so : (s : Session) (own : SessionId) (d : List ℕ) (p : Packet) (session : ℕ) (said report : Report)
+-- what was said of the own session is what was reported
+reported-so : (s : Session) (own : SessionId) (d : List ℕ) (p : Packet) (session : ℕ) (said report : Report)
     → s ≡ Memx own
     → memx.read d ≡ taken p
     → ofMemx (own .0) p ≡ owned (own .0) session said
-    → hear s d ≡ taken report
+    → reportOf s d ≡ taken report
     → said ≡ report
-unfolding hear
-heard-so s own d p session said report m f g h =
+unfolding reportOf
+reported-so s own d p session said report m f g h =
     taken-same said report (all-passed ((session is own .0 else 11) ∷ []) (taken said) report (rw (m, f, g) at h) .1)
 
 -- an end that does not contradict the record is not below T
@@ -48,21 +48,25 @@ no-clash true b e = absurd (true≢false e)
 no-clash false true e = refl
 no-clash false false e = absurd (true≢false e)
 
-module _ (r : Record) (own : SessionId) (mine : r .session ≡ Memx own) (area d : List ℕ) (room : ℕ) (t : Taking) (e : taking r area d room ≡ taken t) where
+module _ (r : Record) (own : SessionId) (mine : r .session ≡ Memx own) (area d : List ℕ) (room : ℕ) (t : Taking)
+    (e : taking r area d room ≡ taken t) where
   w : Took r area d room t
   w = took r area d room t e
 
   -- T becomes the number of a heartbeat, if that is higher, and nothing ends.
-  pub heartbeat-names-the-highest : (session n : ℕ) (extra : List ℕ) → memx.read d ≡ taken (heartbeat session n extra) → (t .after .top .0 ≡ max (r .top .0) n) × (t .after .ended ≡ r .ended)
+  pub heartbeat-names-the-highest : (session n : ℕ) (extra : List ℕ) → memx.read d ≡ taken (heartbeat session n extra)
+      → (t .after .top .0 ≡ max (r .top .0) n) × (t .after .ended ≡ r .ended)
   heartbeat-names-the-highest session n extra f =
-      let said = heard-so (r .session) own d (heartbeat session n extra) session (news n) (w .report) mine f refl (w .heard) in
+      let said = reported-so (r .session) own d (heartbeat session n extra) session (news n) (w .report) mine f refl (w .reports) in
       rw (w .reported .gives, ← said) (refl, or-false (r .ended))
 
   -- T is the number of a shutdown, and the session has ended.
-  pub shutdown-names-the-total : (session n : ℕ) (extra : List ℕ) → memx.read d ≡ taken (shutdown session n extra) → (t .after .top .0 ≡ n) × (t .after .ended ≡ true)
+  pub shutdown-names-the-total : (session n : ℕ) (extra : List ℕ) → memx.read d ≡ taken (shutdown session n extra) → (t .after .top .0 ≡ n)
+      × (t .after .ended ≡ true)
   shutdown-names-the-total session n extra f =
-      let said = heard-so (r .session) own d (shutdown session n extra) session (end n) (w .report) mine f refl (w .heard) in
-      let high : leb (r .top .0) n ≡ true = no-clash (r .ended && not (leb n (r .top .0))) (leb (r .top .0) n) (rw (← said) at (w .reported .agrees)) in
+      let said = reported-so (r .session) own d (shutdown session n extra) session (end n) (w .report) mine f refl (w .reports) in
+      let high : leb (r .top .0) n ≡ true = no-clash (r .ended && not (leb n (r .top .0))) (leb (r .top .0) n)
+      (rw (← said) at (w .reported .agrees)) in
       let bound = leb-true (r .top .0) n high in
       rw (w .reported .gives, ← said) (omega arith, or-true (r .ended))
 
@@ -70,14 +74,19 @@ module _ (r : Record) (own : SessionId) (mine : r .session ≡ Memx own) (area d
 module _ (area : List ℕ) (slots : areaSize ≤ length area) where
   abbrev after-two : List ℕ → List ℕ → Verdict State
   after-two d e =
-      taking (fresh (Memx (record { 0 = 1 }))) area d memxRoom into λ t. taking (t .after) (t .area) e memxRoom into λ u. standing (u .after)
+      taking (fresh (Memx (record { 0 = 1 }))) area d memxRoom into λ t. taking (t .after) (t .area) e memxRoom into λ u. standing
+      (u .after)
 
   -- Message 1 comes, then a heartbeat with the number 2: message 2 is missing.
-  pub one-then-heartbeat-two : after-two (bytesOf 23 0x02_12_0000000000000001_0000000000000001_0001_0001_5A) (bytesOf 18 0x00_12_0000000000000001_0000000000000002) ≡ taken (missing ((2 to 2) ∷ []))
-  unfolding be bytesOf frames cut memx.read memx.readNews memx.readMessages freedFrom run heldFrom every inPlace hangs hear reporting taking lists.ranges lists.missing standing
+  pub one-then-heartbeat-two : after-two (bytesOf 23 0x02_12_0000000000000001_0000000000000001_0001_0001_5A)
+      (bytesOf 18 0x00_12_0000000000000001_0000000000000002) ≡ taken (missing ((2 to 2) ∷ []))
+  unfolding be bytesOf frames cut memx.read memx.readNews memx.readMessages freedFrom run heldFrom every inPlace hangs reportOf reporting
+      taking lists.ranges lists.missing standing
   one-then-heartbeat-two = rw (none-sound area slots, none-sound area slots)
 
   -- Messages 1 and 2 come, then a shutdown with the number 2: the record is complete.
-  pub two-then-shutdown-two : after-two (bytesOf 26 0x02_12_0000000000000001_0000000000000001_0002_0001_5A_0001_5A) (bytesOf 18 0x01_12_0000000000000001_0000000000000002) ≡ taken complete
-  unfolding be bytesOf frames cut memx.read memx.readNews memx.readMessages freedFrom run heldFrom every inPlace hangs hear reporting taking lists.ranges lists.missing standing
+  pub two-then-shutdown-two : after-two (bytesOf 26 0x02_12_0000000000000001_0000000000000001_0002_0001_5A_0001_5A)
+      (bytesOf 18 0x01_12_0000000000000001_0000000000000002) ≡ taken complete
+  unfolding be bytesOf frames cut memx.read memx.readNews memx.readMessages freedFrom run heldFrom every inPlace hangs reportOf reporting
+      taking lists.ranges lists.missing standing
   two-then-shutdown-two = rw (none-sound area slots, none-sound area slots)

@@ -20,31 +20,39 @@ use Rattle.blocks.proofs.Skipping.{not-reached}
 use Rattle.held.specs.Hanging.{sound}
 use Rattle.held.specs.Releasing.{released, releasing, Settled}
 use Rattle.held.specs.declared.releasing.Released.the-variants as lets
-use Rattle.taking.specs.Steps.{handedOwn, Given, handed, Handed}
+use Rattle.taking.specs.Handing.{handedOwn, Given, handed, Handed}
 use Rattle.taking.specs.declared.deliver.Delivered.the-variants as gives
 
 -- one run stored behind the room of another, and then that other
-stored-both : (a b out : List ℕ) → length a + length b ≤ length out → sets (sets out (length a) b) 0 a ≡ (a ++ b) ++ drop (length (a ++ b)) out
+stored-both : (a b out : List ℕ) → length a + length b ≤ length out → sets (sets out (length a) b) 0 a ≡ (a ++ b) ++ drop (length (a ++ b))
+    out
 stored-both a b out h =
     let l : List ℕ = sets out (length a) b in
     let n : length l ≡ length out = length-sets out (length a) b in
     let t : length (take (length a) out) ≡ length a = length-take-le (length a) out (omega arith) in
     let d : drop (length a) l ≡ b ++ drop (length a + length b) out =
-    ap (drop (length a)) (stored-at out b (length a) h) ∙ drop-at (take (length a) out) (b ++ drop (length a + length b) out) (length a) t in
-    stored a l (omega arith) ∙ ap (λ (x : List ℕ). a ++ x) d ∙ sym (append-assoc a b (drop (length a + length b) out)) ∙ ap (λ (k : ℕ). (a ++ b) ++ drop k out) (sym (length-append a b))
+    ap (drop (length a)) (stored-at out b (length a) h) ∙ drop-at (take (length a) out) (b ++ drop (length a + length b) out) (length a) t
+    in
+    stored a l (omega arith) ∙ ap (λ (x : List ℕ). a ++ x) d ∙ sym (append-assoc a b (drop (length a + length b) out))
+    ∙ ap (λ (k : ℕ). (a ++ b) ++ drop k out) (sym (length-append a b))
 
 -- what was let go fits behind the place, and the output is as long as before
-pub let-fits : (held : ℕ) (area : List ℕ) (m at : ℕ) (out : List ℕ) (messages bytes : ℕ) (left : List ℕ) → Settled (releasing held area m at (length out)) at out (lets.Messages messages bytes) left
+pub let-fits : (held : ℕ) (area : List ℕ) (m at : ℕ) (out : List ℕ) (messages bytes : ℕ) (left : List ℕ)
+    → Settled (releasing held area m at (length out)) at out (lets.Messages messages bytes) left
     → (at + bytes ≤ length out) × (length left ≡ length out)
 let-fits held area m at out messages bytes left g = by (releasing held area m at (length out)) refl g where
-  by : (v : Verdict (List (List ℕ))) → releasing held area m at (length out) ≡ v → Settled v at out (lets.Messages messages bytes) left → (at + bytes ≤ length out) × (length left ≡ length out)
+  by : (v : Verdict (List (List ℕ))) → releasing held area m at (length out) ≡ v → Settled v at out (lets.Messages messages bytes) left
+      → (at + bytes ≤ length out) × (length left ≡ length out)
   by (refused x) w g = impossible (cc (g .answer))
   by (taken ms) w g =
       let cs : List Check = (sound held area else 10) ∷ (at + length (frames (released held area m)) atMost length out else 9) ∷ [] in
       let c = all-passed cs (taken (released held area m)) ms w in
       let same : released held area m ≡ ms = taken-same (released held area m) ms (c .1) in
-      let z : bytes ≡ length (frames ms) = cc (g .answer) in
-      (rw (z, ← same) (leb-true (at + length (frames (released held area m))) (length out) (c .0 .1 .0)), ap length (g .bytes) ∙ length-sets out at (frames ms))
+      let z : bytes ≡ length (frames ms) = cc (g .answer) in (
+        rw (z, ← same) (leb-true (at + length (frames (released held area m))) (length out) (c .0 .1 .0)),
+        ap length (g .bytes)
+            ∙ length-sets out at (frames ms),
+      )
 
 module _ (k : ℕ) (s : List ℕ) (p held : ℕ) (area : List ℕ) (m : ℕ) (out : List ℕ) where
   abbrev said : Verdict Given
@@ -60,13 +68,16 @@ module _ (k : ℕ) (s : List ℕ) (p held : ℕ) (area : List ℕ) (m : ℕ) (ou
     from-there : said ≡ let-go into λ ms. taken (record { own = drop q s; released = ms })
     from-there = rw e
 
-    pub hands-back : (n : ℕ) (left : List ℕ) → Settled (releasing held area m (length s - q) (length out)) (length s - q) out (lets.Refused n) left → Handed said out (gives.Refused n) left
+    pub hands-back : (n : ℕ) (left : List ℕ) → Settled (releasing held area m (length s - q) (length out)) (length s - q) out
+        (lets.Refused n) left → Handed said out (gives.Refused n) left
     hands-back n left h = rw from-there (by let-go (rw (← length-drop q s) at h)) where
-      by : (v : Verdict (List (List ℕ))) → Settled v (length (drop q s)) out (lets.Refused n) left → Handed (v into λ ms. taken (record { own = drop q s; released = ms })) out (gives.Refused n) left
+      by : (v : Verdict (List (List ℕ))) → Settled v (length (drop q s)) out (lets.Refused n) left
+          → Handed (v into λ ms. taken (record { own = drop q s; released = ms })) out (gives.Refused n) left
       by (refused x) g = let z : n ≡ x = cc (g .answer) in rw z (record { answer = refl; bytes = g .bytes })
       by (taken ms) g = impossible (cc (g .answer))
 
-    pub hands-over : (messages bytes : ℕ) (left last : List ℕ) → Settled (releasing held area m (length s - q) (length out)) (length s - q) out (lets.Messages messages bytes) left
+    pub hands-over : (messages bytes : ℕ) (left last : List ℕ) → Settled (releasing held area m (length s - q) (length out)) (length s - q)
+        out (lets.Messages messages bytes) left
         → last ≡ sets left 0 (take (length s - q) (drop q s)) → Handed said out (gives.Bytes (length s - q + bytes) messages) last
     hands-over messages bytes left last g f = rw from-there (by let-go refl (rw (← length-drop q s) at g)) where
       by : (v : Verdict (List (List ℕ))) → let-go ≡ v → Settled v (length (drop q s)) out (lets.Messages messages bytes) left
@@ -93,7 +104,8 @@ module _ (k : ℕ) (s : List ℕ) (p : ℕ) (out : List ℕ) where
     pub own-back : length out < length s - q → Reply.Settled (handedOwn k s p (length out)) out (Refused 9) out
     own-back h = lacks-room _ (drop q s) out from-there-own (rw length-drop h)
 
-    pub own-over : (left : List ℕ) → length s - q ≤ length out → left ≡ sets out 0 (take (length s - q) (drop q s)) → Reply.Settled (handedOwn k s p (length out)) out (Bytes (length s - q)) left
+    pub own-over : (left : List ℕ) → length s - q ≤ length out → left ≡ sets out 0 (take (length s - q) (drop q s))
+        → Reply.Settled (handedOwn k s p (length out)) out (Bytes (length s - q)) left
     own-over left h f =
         let l : length (drop q s) ≡ length s - q = length-drop q s in
         let all : take (length s - q) (drop q s) ≡ drop q s = take-all (length s - q) (drop q s) (omega arith) in

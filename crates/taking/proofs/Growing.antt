@@ -22,9 +22,10 @@ use Rattle.missing.specs.Missing.{isHeld}
 use Rattle.record.specs.Record.{hangs}
 use Rattle.record.specs.declared.Record.{Record}
 use Rattle.record.proofs.Hanging.{hanging}
-use Rattle.hearing.specs.Hearing.{Report, messages, isEnd}
+use Rattle.reports.specs.Reports.{Report, messages, isEnd}
 use Rattle.taking.specs.Taking.{own, delivered, holding, after, Taking, taking}
-use Rattle.taking.proofs.Reports.{Lies, reaches, ahead, passes, lies, early, early-held, none-held, delivers-many, delivers-none, holds-early}
+use Rattle.taking.proofs.Reports.{Lies, reaches, ahead, passes, lies, early, early-held, none-held, delivers-many, delivers-none}
+use Rattle.taking.proofs.Reports.{holds-early}
 use Rattle.taking.proofs.Took.{took}
 use Rattle.taking.proofs.Numbered.{Held, is-held, held-so}
 
@@ -52,7 +53,8 @@ pub data Remembered (next held : ℕ) (area : List ℕ) (m : ℕ) (message : Lis
   still-held : isHeld held next m ≡ true → heldMessage area m ≡ message → Remembered next held area m message
 
 -- n messages went out from N on, and N's slot is free: what was held past them still is
-freed-remembers : (held next n : ℕ) (area : List ℕ) → full (freedFrom n held next) (next + n) ≡ false → (m : ℕ) → Held held next m → Remembered (next + n) (freedFrom n held next) area m (heldMessage area m)
+freed-remembers : (held next n : ℕ) (area : List ℕ) → full (freedFrom n held next) (next + n) ≡ false → (m : ℕ) → Held held next m
+    → Remembered (next + n) (freedFrom n held next) area m (heldMessage area m)
 freed-remembers held next n area z m h =
     by-test (leb (next + n) m)
     (λ e.
@@ -65,27 +67,37 @@ freed-remembers held next n area z m h =
       apart : (next n m j : ℕ) → m ≤ next + 31 → next + n ≤ m → j < n → slotOf m ≡ slotOf (next + j) → ⊥
       apart next n m j a l b q = omega arith
 
-module _ (r : Record) (area : List ℕ) (h : hangs r ≡ true) (s : sound (r .held) area ≡ true) (m : ℕ) (was : Held (r .held) (r .next .0) m) where
-  freed-after : (report : Report) → Remembered (after r area report .next .0) (freedFrom (length (delivered r area report)) (r .held) (r .next .0)) area m (heldMessage area m)
-  freed-after report =
-      let n = length (delivered r area report) in
-      let z : full (freedFrom n (r .held) (r .next .0)) (r .next .0 + n) ≡ false = rw (delivers-many r area report) (released-free (r .held) (r .next .0) (r .top .0) (length (own (r .next .0) report)) (hanging r h .placed)) in
-      freed-remembers (r .held) (r .next .0) n area z m was
+module _ (r : Record) (area : List ℕ) (h : hangs r ≡ true) (s : sound (r .held) area ≡ true) (m : ℕ) (was : Held (r .held) (r .next .0) m)
+  where
+    freed-after : (report : Report) → Remembered (after r area report .next .0)
+        (freedFrom (length (delivered r area report)) (r .held) (r .next .0)) area m (heldMessage area m)
+    freed-after report =
+        let n = length (delivered r area report) in
+        let z : full (freedFrom n (r .held) (r .next .0)) (r .next .0 + n) ≡ false = rw (delivers-many r area report)
+        (released-free (r .held) (r .next .0) (r .top .0) (length (own (r .next .0) report)) (hanging r h .placed)) in
+        freed-remembers (r .held) (r .next .0) n area z m was
 
-  remembers : (report : Report) → Lies (r .next .0) report → Remembered (after r area report .next .0) (after r area report .held) (holding r area report .area) m (heldMessage area m)
-  remembers report (passes _ e k) = rw (k (record { held = freedFrom (length (delivered r area report)) (r .held) (r .next .0); area = area })) (freed-after report)
-  remembers report (reaches first ms a b) =
-      rw (none-held (r .next .0) first ms a (record { held = freedFrom (length (delivered r area (messages first ms))) (r .held) (r .next .0); area = area })) (freed-after (messages first ms))
-  remembers report (ahead first ms a) =
-      let e = early (r .next .0) first ms a in
-      let k : Holding = record { held = r .held; area = area } in
-      let keeps = all-keeps (r .next .0) k first ms in
-      let z : length (delivered r area (messages first ms)) ≡ 0 = ap length (delivers-none r area (messages first ms) h e) in
-      rw (holds-early r area (messages first ms) h e, z, add-zero (r .next .0), early-held (r .next .0) first ms a k)
-      (still-held (held-so _ (r .next .0) m (record { past = was .past; near = was .near; full = keeps .full m (was .full) })) (keeps .same (sound-fits (r .held) area s) m (was .full)))
+    remembers : (report : Report) → Lies (r .next .0) report → Remembered (after r area report .next .0) (after r area report .held)
+        (holding r area report .area) m (heldMessage area m)
+    remembers report (passes _ e k) = rw (k
+        (record { held = freedFrom (length (delivered r area report)) (r .held) (r .next .0); area = area })) (freed-after report)
+    remembers report (reaches first ms a b) =
+        rw (none-held (r .next .0) first ms a
+        (record { held = freedFrom (length (delivered r area (messages first ms))) (r .held) (r .next .0); area = area }))
+        (freed-after (messages first ms))
+    remembers report (ahead first ms a) =
+        let e = early (r .next .0) first ms a in
+        let k : Holding = record { held = r .held; area = area } in
+        let keeps = all-keeps (r .next .0) k first ms in
+        let z : length (delivered r area (messages first ms)) ≡ 0 = ap length (delivers-none r area (messages first ms) h e) in
+        rw (holds-early r area (messages first ms) h e, z, add-zero (r .next .0), early-held (r .next .0) first ms a k)
+        (still-held (held-so _ (r .next .0) m (record { past = was .past; near = was .near; full = keeps .full m (was .full) }))
+        (keeps .same (sound-fits (r .held) area s) m (was .full)))
 
 -- Every number that was held has been delivered afterwards, or is still held, with the same message.
-pub never-forgets : (r : Record) (area d : List ℕ) (room : ℕ) (t : Taking) → taking r area d room ≡ taken t → (m : ℕ) → isHeld (r .held) (r .next .0) m ≡ true → Remembered (t .after .next .0) (t .after .held) (t .area) m (heldMessage area m)
+pub never-forgets : (r : Record) (area d : List ℕ) (room : ℕ) (t : Taking) → taking r area d room ≡ taken t → (m : ℕ)
+    → isHeld (r .held) (r .next .0) m ≡ true → Remembered (t .after .next .0) (t .after .held) (t .area) m (heldMessage area m)
 never-forgets r area d room t e m h =
     let w = took r area d room t e in
-    rw (w .reported .gives) (remembers r area (w .hangs) (w .sound) m (is-held (r .held) (r .next .0) m h) (w .report) (lies (r .next .0) (w .report)))
+    rw (w .reported .gives) (remembers r area (w .hangs) (w .sound) m (is-held (r .held) (r .next .0) m h) (w .report)
+    (lies (r .next .0) (w .report)))

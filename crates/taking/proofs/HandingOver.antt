@@ -26,9 +26,9 @@ use Rattle.held.proofs.Hangs.{in-place-higher}
 use Rattle.held.proofs.Releases.{length-released, released-none, run-within, released-near}
 use Rattle.record.specs.Record.{hangs}
 use Rattle.record.proofs.Hanging.{hanging}
-use Rattle.hearing.specs.Hearing.{messages, Fills, blocksFrom}
+use Rattle.reports.specs.Reports.{messages, Fills, blocksFrom}
 use Rattle.taking.specs.Taking.{clash, own, told, Taking, reporting, takenOf, Answered}
-use Rattle.taking.specs.Steps.{passing, handedOwn, Given, handed, Handed}
+use Rattle.taking.specs.Handing.{passing, handedOwn, Given, handed, Handed}
 use Rattle.record.specs.declared.Record.{Record}
 use Rattle.taking.specs.declared.Taken.{Taken}
 use Rattle.taking.specs.declared.Taken.the-variants as takes
@@ -47,27 +47,41 @@ module _ (d : List ℕ) (p first count : ℕ) (b : Bytes d) (f : Fills d p first
   pub hands-others : (k held : ℕ) (area : List ℕ) (m room : ℕ) → k ≤ count → sound held area ≡ true
       → (let ms = drop k (blocksFrom d p count) in
       let more = released held area m in
-      handed k d p held area m room ≡ checked ((length (frames (ms ++ more)) atMost room else 9) ∷ []) (taken (record { own = frames ms; released = more })))
+      handed k d p held area m room ≡ checked ((length (frames (ms ++ more)) atMost room else 9) ∷ [])
+      (taken (record { own = frames ms; released = more })))
   hands-others k held area m room h s =
       let ms : List (List ℕ) = drop k (blocksFrom d p count) in
       let more : List (List ℕ) = released held area m in
-      let l : length (frames (ms ++ more)) ≡ length (frames ms) + length (frames more) = ap length (frames-append ms more) ∙ length-append (frames ms) (frames more) in
-      rw (skipped k count d p (blocksFrom d p count) (cuts .0) (cuts .1) h .place, skipped-bytes k count d p (blocksFrom d p count) b (cuts .0) (cuts .1) h, s, l)
+      let l : length (frames (ms ++ more)) ≡ length (frames ms) + length (frames more) = ap length (frames-append ms more)
+      ∙ length-append (frames ms) (frames more) in
+      rw (
+        skipped k count d p (blocksFrom d p count) (cuts .0) (cuts .1) h .place,
+        skipped-bytes k count d p (blocksFrom d p count) b
+            (cuts .0) (cuts .1) h,
+        s,
+        l,
+      )
       (by-test (leb (length (frames ms) + length (frames more)) room) (λ e. rw e refl) (λ e. rw e refl))
 
   -- and where nothing is held
   pub hands-own : (k room : ℕ) → k ≤ count → handedOwn k d p room ≡ within room (frames (drop k (blocksFrom d p count)))
   hands-own k room h =
-      rw (skipped k count d p (blocksFrom d p count) (cuts .0) (cuts .1) h .place, skipped-bytes k count d p (blocksFrom d p count) b (cuts .0) (cuts .1) h)
+      rw (
+        skipped k count d p (blocksFrom d p count) (cuts .0) (cuts .1) h .place,
+        skipped-bytes k count d p (blocksFrom d p count) b
+            (cuts .0) (cuts .1) h,
+      )
 
 module _ (r : Record) (area : List ℕ) (first count : ℕ) (ms : List (List ℕ)) (l : length ms ≡ count) (out : List ℕ) where
   abbrev said : Verdict Taking
   said = reporting r area (length out) (messages first ms)
 
   -- N is past the messages
-  pub tells-pass : hangs r ≡ true → first ≤ r .next .0 → own (r .next .0) (messages first ms) ≡ [] → (a : Taken) → a ≡ takenOf (passing r area (first + count - 1) false) → Answered said area out a area out
+  pub tells-pass : hangs r ≡ true → first ≤ r .next .0 → own (r .next .0) (messages first ms) ≡ [] → (a : Taken)
+      → a ≡ takenOf (passing r area (first + count - 1) false) → Answered said area out a area out
   tells-pass h b none a e =
-      rw (reports-none r area (messages first ms) h none (length out) (none-held (r .next .0) first ms b), l) (leaves r area (first + count - 1) false out a e)
+      rw (reports-none r area (messages first ms) h none (length out) (none-held (r .next .0) first ms b), l)
+      (leaves r area (first + count - 1) false out a e)
 
   -- the packet contradicts
   pub tells-clash : clash r (first + count - 1) false ≡ true → Answered said area out (takes.Refused 12) area out
@@ -88,11 +102,13 @@ module _ (r : Record) (area : List ℕ) (first count : ℕ) (ms : List (List ℕ
   reached k = told r (first + count + k) (freedFrom k free (first + count)) (first + count - 1) false
 
   abbrev pub room : Verdict Given
-  room = checked ((length (frames (others ++ more)) atMost length out else 9) ∷ []) (taken (record { own = frames others; released = more }))
+  room = checked ((length (frames (others ++ more)) atMost length out else 9) ∷ [])
+      (taken (record { own = frames others; released = more }))
 
   -- the packet doesn't contradict, and N is among them: only the room is left to ask for
   module _ (a : first ≤ r .next .0) (b : r .next .0 < first + count) (c : clash r (first + count - 1) false ≡ false) where
-    room-alone : said ≡ room into λ g. taken (record { delivered = others ++ g .released; after = reached (length (g .released)); area = area })
+    room-alone : said ≡ room into λ g. taken
+        (record { delivered = others ++ g .released; after = reached (length (g .released)); area = area })
     unfolding reporting
     room-alone =
         let k : ℕ = first + count - r .next .0 in
@@ -100,10 +116,13 @@ module _ (r : Record) (area : List ℕ) (first count : ℕ) (ms : List (List ℕ
         let p : r .next .0 + k ≡ first + count = omega arith in
         let d : own (r .next .0) (messages first ms) ≡ others = among (r .next .0) first ms a (rw l b) in
         let j : length (others ++ more) ≡ k + length more = rw (length-append, n) in
-        let f : freedFrom (k + length more) (r .held) (r .next .0) ≡ freedFrom (length more) free (first + count) = rw p at (freed-add k (length more) (r .held) (r .next .0)) in
+        let f : freedFrom (k + length more) (r .held) (r .next .0) ≡ freedFrom (length more) free (first + count) =
+        rw p at (freed-add k (length more) (r .held) (r .next .0)) in
         let q : r .next .0 + (k + length more) ≡ first + count + length more = omega arith in
         rw (d, n, p, none-held (r .next .0) first ms a, l, c, j, f, q)
-        (sym (into-checked ((length (frames (others ++ more)) atMost length out else 9) ∷ []) (taken (record { own = frames others; released = more })) (λ (g : Given). taken (record { delivered = others ++ g .released; after = reached (length (g .released)); area = area }))))
+        (sym (into-checked ((length (frames (others ++ more)) atMost length out else 9) ∷ [])
+        (taken (record { own = frames others; released = more }))
+        (λ (g : Given). taken (record { delivered = others ++ g .released; after = reached (length (g .released)); area = area }))))
 
     module _ (left : List ℕ) where
       pub tells-refusal : (n : ℕ) → Handed room out (gives.Refused n) left → Answered said area out (takes.Refused n) area left
@@ -118,7 +137,8 @@ module _ (r : Record) (area : List ℕ) (first count : ℕ) (ms : List (List ℕ
           let f : left ≡ out = rw e at (s .bytes) in
           rw e (record { answer = cc; bytes = f; slots = refl })))
 
-      pub tells-blocks : (n k m : ℕ) (kept : Record) → m ≡ first + count + k - r .next .0 → kept ≡ reached k → Handed room out (gives.Bytes n k) left → Answered said area out (takes.Took n m kept) area left
+      pub tells-blocks : (n k m : ℕ) (kept : Record) → m ≡ first + count + k - r .next .0 → kept ≡ reached k
+          → Handed room out (gives.Bytes n k) left → Answered said area out (takes.Took n m kept) area left
       tells-blocks n k m kept q h s =
           rw room-alone
           (by-test (leb (length (frames (others ++ more))) (length out))
@@ -141,14 +161,17 @@ module _ (r : Record) (area : List ℕ) (first count : ℕ) (ms : List (List ℕ
       nothing-more : more ≡ []
       nothing-more = released-none free area (first + count) (rw nothing-free (none-full (slotOf (first + count))))
 
-      own-alone : said ≡ within (length out) (frames others) into λ _. taken (record { delivered = others; after = told r (first + count) 0 (first + count - 1) false; area = area })
+      own-alone : said ≡ within (length out) (frames others) into λ _. taken
+          (record { delivered = others; after = told r (first + count) 0 (first + count - 1) false; area = area })
       unfolding freedFrom
       own-alone =
           rw (room-alone, nothing-more, append-nil others, nothing-free)
-          (by-test (leb (length (frames others)) (length out)) (λ e. rw (e, append-nil others, add-zero (first + count)) refl) (λ e. rw e refl))
+          (by-test (leb (length (frames others)) (length out)) (λ e. rw (e, append-nil others, add-zero (first + count)) refl)
+          (λ e. rw e refl))
 
       module _ (left : List ℕ) where
-        pub own-refusal : (n : ℕ) → Settled (within (length out) (frames others)) out (written.Refused n) left → Answered said area out (takes.Refused n) area left
+        pub own-refusal : (n : ℕ) → Settled (within (length out) (frames others)) out (written.Refused n) left
+            → Answered said area out (takes.Refused n) area left
         own-refusal n s =
             rw own-alone
             (by-test (leb (length (frames others)) (length out))
@@ -160,7 +183,9 @@ module _ (r : Record) (area : List ℕ) (first count : ℕ) (ms : List (List ℕ
             let f : left ≡ out = rw e at (s .bytes) in
             rw e (record { answer = cc; bytes = f; slots = refl })))
 
-        pub own-blocks : (n m : ℕ) (kept : Record) → m ≡ length others → kept ≡ told r (first + count) 0 (first + count - 1) false → Settled (within (length out) (frames others)) out (written.Bytes n) left → Answered said area out (takes.Took n m kept) area left
+        pub own-blocks : (n m : ℕ) (kept : Record) → m ≡ length others → kept ≡ told r (first + count) 0 (first + count - 1) false
+            → Settled (within (length out) (frames others)) out (written.Bytes n) left → Answered said area out (takes.Took n m kept) area
+            left
         own-blocks n m kept k h s =
             rw own-alone
             (by-test (leb (length (frames others)) (length out))
@@ -174,7 +199,8 @@ module _ (r : Record) (area : List ℕ) (first count : ℕ) (ms : List (List ℕ
             impossible (cc x)))
 
   -- how many are released, and where N comes to
-  pub released-few : hangs r ≡ true → first ≤ r .next .0 → r .next .0 < first + count → (n k : ℕ) (left : List ℕ) → Handed room out (gives.Bytes n k) left → (k ≤ 31) × (first + count + k ≤ max (r .top .0) (first + count - 1) + 1)
+  pub released-few : hangs r ≡ true → first ≤ r .next .0 → r .next .0 < first + count → (n k : ℕ) (left : List ℕ)
+      → Handed room out (gives.Bytes n k) left → (k ≤ 31) × (first + count + k ≤ max (r .top .0) (first + count - 1) + 1)
   released-few h a b n k left s =
       let j : ℕ = first + count - r .next .0 in
       let p : r .next .0 + j ≡ first + count = omega arith in

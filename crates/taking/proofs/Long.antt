@@ -20,14 +20,15 @@ use Rattle.missing.proofs.Apart.{Within}
 use Rattle.record.specs.Standing.{missing, missingOf, standing}
 use Rattle.record.specs.declared.Record.{Record}
 use Rattle.record.proofs.Complete.{missing-if, missing-means}
-use Rattle.hearing.specs.Hearing.{messages, hear}
+use Rattle.reports.specs.Reports.{messages, reportOf}
 use Rattle.taking.specs.Taking.{Taking, taking}
 use Rattle.taking.proofs.Took.{took}
 use Rattle.taking.proofs.Kept.{taking-hangs, taking-sound}
 use Rattle.taking.proofs.Numbered.{is-held, Came, brought, was-held, holds-by-number, delivers-part}
 
 -- a packet was taken, and number n is one of its messages
-module _ (r : Record) (area d : List ℕ) (room : ℕ) (t : Taking) (e : taking r area d room ≡ taken t) (first : ℕ) (ms : List (List ℕ)) (h : hear (r .session) d ≡ taken (messages first ms)) (n : ℕ) (from : first ≤ n) (to : n < first + length ms) where
+module _ (r : Record) (area d : List ℕ) (room : ℕ) (t : Taking) (e : taking r area d room ≡ taken t) (first : ℕ) (ms : List (List ℕ))
+    (h : reportOf (r .session) d ≡ taken (messages first ms)) (n : ℕ) (from : first ≤ n) (to : n < first + length ms) where
   abbrev message : List ℕ
   message = getD ms (n - first) []
 
@@ -35,7 +36,7 @@ module _ (r : Record) (area d : List ℕ) (room : ℕ) (t : Taking) (e : taking 
   pub top-rises : n ≤ t .after .top .0
   top-rises =
       let w = took r area d room t e in
-      let same : w .report ≡ messages first ms = taken-same (w .report) (messages first ms) (sym (w .heard) ∙ h) in
+      let same : w .report ≡ messages first ms = taken-same (w .report) (messages first ms) (sym (w .reports) ∙ h) in
       rw (w .reported .gives, same) (omega arith)
 
   -- what is held has room in its slot
@@ -58,7 +59,8 @@ module _ (r : Record) (area d : List ℕ) (room : ℕ) (t : Taking) (e : taking 
           by l (was-held g _) = true≢false (sym g ∙ new)
 
     -- So if it did not go out, the record stands at what it lacks, and names it.
-    pub long-missing : Bytes d → t .after .next .0 ≤ n → (standing (t .after) ≡ taken (missing (missingOf (t .after)))) × Within n (missingOf (t .after))
+    pub long-missing : Bytes d → t .after .next .0 ≤ n → (standing (t .after) ≡ taken (missing (missingOf (t .after))))
+        × Within n (missingOf (t .after))
     long-missing b l =
         let stands = missing-if (t .after) (taking-hangs r area d room t b e) (omega (arith, top-rises)) in
         (stands, missing-means (t .after) (missingOf (t .after)) stands n .1 (l, top-rises, long-not-held))

@@ -12,16 +12,18 @@ use Rattle.memx.specs.Packet as memx
 use Rattle.memx.specs.Read as memxRead
 use Rattle.record.specs.declared.Record.{Record}
 use Rattle.record.specs.declared.Session.the-variants.{Ufo, Memx}
-use Rattle.hearing.specs.Hearing.{hear}
-use Rattle.hearing.proofs.Order.{sessionOf}
-use Rattle.hearing.proofs.Own.{heard-ufo, heard-memx}
+use Rattle.reports.specs.Reports.{reportOf}
+use Rattle.reports.proofs.Order.{sessionOf}
+use Rattle.reports.proofs.Own.{reported-ufo, reported-memx}
 use Rattle.taking.specs.Taking.{Taking, taking}
 use Rattle.taking.proofs.Took.{took}
 
 module _ (r : Record) (area d : List ℕ) (room : ℕ) (t : Taking) (e : taking r area d room ≡ taken t) where
   pub takes-S-or-E : (name : Name) → r .session ≡ Ufo name
-      → ((first : ℕ) × (ms : List (List ℕ)) × (ufo.read d ≡ taken (ufo.messages first ms))) ⊎ ((total : ℕ) × (ufo.read d ≡ taken (ufo.end total)))
-  takes-S-or-E name s = let w = took r area d room t e in heard-ufo name d (w .report) (ap (λ x. hear x d) (sym s) ∙ w .heard)
+      → ((first : ℕ) × (ms : List (List ℕ)) × (ufo.read d ≡ taken (ufo.messages first ms)))
+      ⊎ ((total : ℕ) × (ufo.read d ≡ taken (ufo.end total)))
+  takes-S-or-E name s = let w = took r area d room t e in reported-ufo name d (w .report) (ap (λ x. reportOf x d) (sym s) ∙ w .reports)
 
-  pub takes-its-session : (own : SessionId) → r .session ≡ Memx own → (p : memx.Packet) × (memxRead.read d ≡ taken p) × (sessionOf p ≡ own .0)
-  takes-its-session own s = let w = took r area d room t e in heard-memx own d (w .report) (ap (λ x. hear x d) (sym s) ∙ w .heard)
+  pub takes-its-session : (own : SessionId) → r .session ≡ Memx own → (p : memx.Packet) × (memxRead.read d ≡ taken p)
+      × (sessionOf p ≡ own .0)
+  takes-its-session own s = let w = took r area d room t e in reported-memx own d (w .report) (ap (λ x. reportOf x d) (sym s) ∙ w .reports)

@@ -22,13 +22,15 @@ use Rattle.held.proofs.Releases.{length-released, released-none}
 use Rattle.record.specs.Record.{hangs}
 use Rattle.record.specs.declared.Record.{Record}
 use Rattle.record.proofs.Hanging.{hanging}
-use Rattle.hearing.specs.Hearing.{Report, messages, news, end, topOf, isEnd}
-use Rattle.taking.specs.Taking.{clash, contradicts, own, delivered, holdingEarly, holding, told, Taking, outcome, reportChecks, reporting, takenOf, Answered}
-use Rattle.taking.specs.Steps.{passing}
+use Rattle.reports.specs.Reports.{Report, messages, news, end, topOf, isEnd}
+use Rattle.taking.specs.Taking.{clash, contradicts, own, delivered, holdingEarly, holding, told, Taking, outcome, reportChecks}
+use Rattle.taking.specs.Taking.{reporting, takenOf, Answered}
+use Rattle.taking.specs.Handing.{passing}
 use Rattle.taking.specs.declared.Taken.{Taken}
 
 -- the first number is at most N and the last at least N
-pub among : (next first : ℕ) (ms : List (List ℕ)) → first ≤ next → next < first + length ms → own next (messages first ms) ≡ drop (next - first) ms
+pub among : (next first : ℕ) (ms : List (List ℕ)) → first ≤ next → next < first + length ms
+    → own next (messages first ms) ≡ drop (next - first) ms
 among next first ms a b = rw (le-leb first next a, le-leb next (first + length ms - 1) (omega arith))
 
 -- an early packet, and a late one
@@ -40,7 +42,8 @@ late next first ms s a =
     rw (lt-leb next (first + length ms - 1) (omega arith), and-false (leb first next))
 
 -- of an early packet the messages are held; of any other, none
-pub early-held : (next first : ℕ) (ms : List (List ℕ)) → next < first → (h : Holding) → holdingEarly next h (messages first ms) ≡ holdAll next h first ms
+pub early-held : (next first : ℕ) (ms : List (List ℕ)) → next < first → (h : Holding) → holdingEarly next h (messages first ms) ≡ holdAll
+    next h first ms
 early-held next first ms a h = rw (lt-leb first next a)
 
 pub none-held : (next first : ℕ) (ms : List (List ℕ)) → first ≤ next → (h : Holding) → holdingEarly next h (messages first ms) ≡ h
@@ -75,36 +78,48 @@ pub delivers-many : (r : Record) (area : List ℕ) (report : Report)
     length (delivered r area report) ≡ k + run 31 (freedFrom k (r .held) (r .next .0)) (r .next .0 + k))
 delivers-many r area report =
     let ms : List (List ℕ) = own (r .next .0) report in
-    rw length-append (ap (λ (n : ℕ). length ms + n) (length-released (freedFrom (length ms) (r .held) (r .next .0)) area (r .next .0 + length ms)))
+    rw length-append (ap (λ (n : ℕ). length ms + n)
+    (length-released (freedFrom (length ms) (r .held) (r .next .0)) area (r .next .0 + length ms)))
 
 -- where none of a report's own messages goes out, nothing does: N's own slot is free
 module _ (r : Record) (area : List ℕ) (report : Report) (h : hangs r ≡ true) (e : own (r .next .0) report ≡ []) where
   pub delivers-none : delivered r area report ≡ []
   unfolding freedFrom
-  delivers-none = rw (e, add-zero (r .next .0)) (released-none (r .held) area (r .next .0) (next-free (r .held) (r .next .0) (r .top .0) (hanging r h .placed)))
+  delivers-none = rw (e, add-zero (r .next .0))
+      (released-none (r .held) area (r .next .0) (next-free (r .held) (r .next .0) (r .top .0) (hanging r h .placed)))
 
   pub holds-early : holding r area report ≡ holdingEarly (r .next .0) (record { held = r .held; area = area }) report
   unfolding freedFrom
   holds-early = rw delivers-none
 
   -- and a report of which nothing is held either is passed
-  pub reports-none : (room : ℕ) → ((h : Holding) → holdingEarly (r .next .0) h report ≡ h) → reporting r area room report ≡ passing r area (topOf report) (isEnd report)
+  pub reports-none : (room : ℕ) → ((h : Holding) → holdingEarly (r .next .0) h report ≡ h) → reporting r area room report ≡ passing r area
+      (topOf report) (isEnd report)
   unfolding reporting passing frames freedFrom
   reports-none room k = rw (delivers-none, k (record { held = r .held; area = area }), le-leb 0 room (omega arith), add-zero (r .next .0))
 
 -- an early one is held
 pub reports-early : (r : Record) (area : List ℕ) (room first : ℕ) (ms : List (List ℕ)) → hangs r ≡ true → r .next .0 < first
     → (let h = holdAll (r .next .0) (record { held = r .held; area = area }) first ms in
-    reporting r area room (messages first ms) ≡ checked ((not (clash r (first + length ms - 1) false) else 12) ∷ []) (taken (record { delivered = []; after = told r (r .next .0) (h .held) (first + length ms - 1) false; area = h .area })))
+    reporting r area room (messages first ms) ≡ checked ((not (clash r (first + length ms - 1) false) else 12) ∷ [])
+    (taken (record { delivered = []; after = told r (r .next .0) (h .held) (first + length ms - 1) false; area = h .area })))
 unfolding reporting frames freedFrom
 reports-early r area room first ms h l =
-    rw (delivers-none r area (messages first ms) h (early (r .next .0) first ms l), lt-leb first (r .next .0) l, le-leb 0 room (omega arith), add-zero (r .next .0))
+    rw (
+      delivers-none r area (messages first ms) h (early (r .next .0) first ms l),
+      lt-leb first (r .next .0) l,
+      le-leb 0 room
+          (omega arith),
+      add-zero (r .next .0),
+    )
 
 -- and leaves the lent output
-pub leaves : (r : Record) (area : List ℕ) (top : ℕ) (final : Bool) (out : List ℕ) (a : Taken) → a ≡ takenOf (passing r area top final) → Answered (passing r area top final) area out a area out
+pub leaves : (r : Record) (area : List ℕ) (top : ℕ) (final : Bool) (out : List ℕ) (a : Taken) → a ≡ takenOf (passing r area top final)
+    → Answered (passing r area top final) area out a area out
 unfolding passing frames
 leaves r area top final out a e =
-    by-test (clash r top final) (λ q. record { answer = e; bytes = rw q; slots = rw q }) (λ q. record { answer = e; bytes = rw q; slots = rw q })
+    by-test (clash r top final) (λ q. record { answer = e; bytes = rw q; slots = rw q })
+    (λ q. record { answer = e; bytes = rw q; slots = rw q })
 
 -- what is known of a report that was taken
 pub record Reported (r : Record) (area : List ℕ) (room : ℕ) (report : Report) (t : Taking) : Type 0 where
@@ -112,13 +127,16 @@ pub record Reported (r : Record) (area : List ℕ) (room : ℕ) (report : Report
   pub fits : length (frames (delivered r area report)) ≤ room
   pub gives : t ≡ outcome r area report
 
-pub reported : (r : Record) (area : List ℕ) (room : ℕ) (report : Report) (t : Taking) → reporting r area room report ≡ taken t → Reported r area room report t
+pub reported : (r : Record) (area : List ℕ) (room : ℕ) (report : Report) (t : Taking) → reporting r area room report ≡ taken t
+    → Reported r area room report t
 unfolding reporting
 reported r area room report t e =
     let p = all-passed (reportChecks r area room report) (taken (outcome r area report)) t e in
     record { agrees = not-true (contradicts r report) (p .0 .0); fits = leb-true _ _ (p .0 .1 .0); gives = cc (p .1) }
 
 -- and what is enough for it
-pub reports : (r : Record) (area : List ℕ) (room : ℕ) (report : Report) → contradicts r report ≡ false → length (frames (delivered r area report)) ≤ room → reporting r area room report ≡ taken (outcome r area report)
+pub reports : (r : Record) (area : List ℕ) (room : ℕ) (report : Report) → contradicts r report ≡ false
+    → length (frames (delivered r area report)) ≤ room → reporting r area room report ≡ taken (outcome r area report)
 unfolding reporting
-reports r area room report a b = passed-all (reportChecks r area room report) (taken (outcome r area report)) (rw a refl, (le-leb _ _ b, tt))
+reports r area room report a b = passed-all (reportChecks r area room report) (taken (outcome r area report))
+    (rw a refl, (le-leb _ _ b, tt))

@@ -29,7 +29,7 @@ use Rattle.record.specs.Record.{hangs}
 use Rattle.record.specs.declared.Record.{Record}
 use Rattle.record.specs.declared.Session.{Session}
 use Rattle.record.specs.declared.Session.the-variants.{Ufo, Memx}
-use Rattle.hearing.specs.Hearing.{Report, messages, news, end, topOf, ofUfo, ofMemx, hear}
+use Rattle.reports.specs.Reports.{Report, messages, news, end, topOf, ofUfo, ofMemx, reportOf}
 use Rattle.taking.specs.Room.{ufoRoom, memxRoom, roomFor}
 use Rattle.taking.specs.Taking.{contradicts, own, delivered, outcome, taking}
 use Rattle.taking.proofs.Took.{takes}
@@ -71,11 +71,16 @@ module _ (d : List ℕ) (b : Bytes d) where
       rw (← taken-same (end highest) report (all-passed ((session is own else 11) ∷ []) (taken (end highest)) report f .1)) tt
   within-memx own (memx.messages session first extra ms) report e f =
       let size = took d (memx.messages session first extra ms) e .size in
-      rw (← taken-same (messages first ms) report (all-passed ((session is own else 11) ∷ []) (taken (messages first ms)) report f .1), ← carried-frames d session first extra ms e b, length-drop) (omega arith)
+      rw (
+        ← taken-same (messages first ms) report (all-passed ((session is own else 11) ∷ []) (taken (messages first ms)) report f .1),
+        ← carried-frames d session first extra ms e b,
+        length-drop,
+      ) (omega arith)
 
   -- with what is held besides
-  room-for : (s : Session) (next : ℕ) (report : Report) → hear s d ≡ taken report → length (frames (own next report)) + 31 * 1472 ≤ roomFor s
-  unfolding hear
+  room-for : (s : Session) (next : ℕ) (report : Report) → reportOf s d ≡ taken report
+      → length (frames (own next report)) + 31 * 1472 ≤ roomFor s
+  unfolding reportOf
   room-for (Ufo name) next report e =
       let w = went (down.read d) ofUfo report e in
       omega (arith, own-within ufo.limit next report (within-ufo (w .by) report (w .was) (w .gave)))
@@ -83,16 +88,19 @@ module _ (d : List ℕ) (b : Bytes d) where
       let w = went (read d) (ofMemx (id .0)) report e in
       omega (arith, own-within memx.limit next report (within-memx (id .0) (w .by) report (w .was) (w .gave)))
 
-  module _ (r : Record) (area : List ℕ) (report : Report) (s : sound (r .held) area ≡ true) (e : hear (r .session) d ≡ taken report) where
-    -- What goes out for a datagram takes no more than that,
-    pub delivery-fits : length (frames (delivered r area report)) ≤ roomFor (r .session)
-    delivery-fits =
-        let ms = own (r .next .0) report in
-        let held = freedFrom (length ms) (r .held) (r .next .0) in
-        let l = released-lean held area (r .next .0 + length ms) (freed-fits (r .held) area (length ms) (r .next .0) (sound-fits (r .held) area s)) in
-        let more = released held area (r .next .0 + length ms) in
-        rw (frames-append ms more, length-append) (omega (arith, room-for (r .session) (r .next .0) report e))
+  module _ (r : Record) (area : List ℕ) (report : Report) (s : sound (r .held) area ≡ true) (e : reportOf (r .session) d ≡ taken report)
+    where
+      -- What goes out for a datagram takes no more than that,
+      pub delivery-fits : length (frames (delivered r area report)) ≤ roomFor (r .session)
+      delivery-fits =
+          let ms = own (r .next .0) report in
+          let held = freedFrom (length ms) (r .held) (r .next .0) in
+          let l = released-lean held area (r .next .0 + length ms)
+          (freed-fits (r .held) area (length ms) (r .next .0) (sound-fits (r .held) area s)) in
+          let more = released held area (r .next .0 + length ms) in
+          rw (frames-append ms more, length-append) (omega (arith, room-for (r .session) (r .next .0) report e))
 
-    -- so with that room whatever is heard and doesn't contradict the record is taken.
-    pub room-enough : (room : ℕ) → roomFor (r .session) ≤ room → hangs r ≡ true → contradicts r report ≡ false → taking r area d room ≡ taken (outcome r area report)
-    room-enough room h k c = takes r area d room report k s e c (omega (arith, delivery-fits))
+      -- so with that room whatever is reported and doesn't contradict the record is taken.
+      pub room-enough : (room : ℕ) → roomFor (r .session) ≤ room → hangs r ≡ true → contradicts r report ≡ false
+          → taking r area d room ≡ taken (outcome r area report)
+      room-enough room h k c = takes r area d room report k s e c (omega (arith, delivery-fits))

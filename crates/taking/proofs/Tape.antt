@@ -11,7 +11,7 @@ use lib.Dec.{leb}
 use Rattle.wire.specs.Checks.{taken}
 use Rattle.wire.proofs.Tests.{by-test, either}
 use Rattle.record.specs.Record.{fresh, lawful}
-use Rattle.hearing.specs.Hearing.{Report, messages, news, end, hear, topOf, isEnd}
+use Rattle.reports.specs.Reports.{Report, messages, news, end, reportOf, topOf, isEnd}
 use Rattle.record.specs.Standing.{ongoing, complete, standing}
 use Rattle.taking.specs.Taking.{Taking, taking}
 use Rattle.record.specs.declared.Record.{Record}
@@ -34,7 +34,8 @@ an-end (news highest) e = absurd (false≢true e)
 an-end (end total) e = (total, refl)
 
 -- Nothing that is taken marks a record ended but an end packet of its own session.
-pub only-an-end : (r : Record) (area d : List ℕ) (room : ℕ) (t : Taking) → taking r area d room ≡ taken t → t .after .ended ≡ true → (r .ended ≡ true) ⊎ ((total : ℕ) × (hear (r .session) d ≡ taken (end total)))
+pub only-an-end : (r : Record) (area d : List ℕ) (room : ℕ) (t : Taking) → taking r area d room ≡ taken t → t .after .ended ≡ true
+    → (r .ended ≡ true) ⊎ ((total : ℕ) × (reportOf (r .session) d ≡ taken (end total)))
 only-an-end r area d room t e h = by (either (r .ended) (isEnd (w .report)) ended) where
   w : Took r area d room t
   w = took r area d room t e
@@ -42,16 +43,17 @@ only-an-end r area d room t e h = by (either (r .ended) (isEnd (w .report)) ende
   ended : r .ended || isEnd (w .report) ≡ true
   ended = rw (w .reported .gives) at h
 
-  by : (r .ended ≡ true) ⊎ (isEnd (w .report) ≡ true) → (r .ended ≡ true) ⊎ ((total : ℕ) × (hear (r .session) d ≡ taken (end total)))
+  by : (r .ended ≡ true) ⊎ (isEnd (w .report) ≡ true) → (r .ended ≡ true) ⊎ ((total : ℕ) × (reportOf (r .session) d ≡ taken (end total)))
   by (inl a) = inl a
-  by (inr b) = let q = an-end (w .report) b in inr (q .0, rw (← q .1) (w .heard))
+  by (inr b) = let q = an-end (w .report) b in inr (q .0, rw (← q .1) (w .reports))
 
 -- a top past that of an ended record would contradict it
 past-end : (ended within other : Bool) → ended ≡ true → within ≡ false → ended && not within || other ≡ false → ⊥
 past-end ended within other h q a = let c : true ≡ false = rw (h, q) at a in true≢false c
 
 -- Once the end was heard the total stands: nothing that is taken changes it.
-pub end-stands : (r : Record) (area d : List ℕ) (room : ℕ) (t : Taking) → taking r area d room ≡ taken t → r .ended ≡ true → t .after .top .0 ≡ r .top .0
+pub end-stands : (r : Record) (area d : List ℕ) (room : ℕ) (t : Taking) → taking r area d room ≡ taken t → r .ended ≡ true
+    → t .after .top .0 ≡ r .top .0
 end-stands r area d room t e h =
     let w = took r area d room t e in
     let top = topOf (w .report) in

@@ -14,7 +14,7 @@ use Rattle.blocks.proofs.Skipping.{stepped-at, none-at}
 use Rattle.held.specs.Holding.{Holding, holdOne, holdAll, Held}
 use Rattle.held.proofs.Holds.{all-keeps}
 use Rattle.record.specs.Record.{hangs}
-use Rattle.hearing.specs.Hearing.{messages, blocksFrom}
+use Rattle.reports.specs.Reports.{messages, blocksFrom}
 use Rattle.taking.specs.Taking.{clash, told, reporting, Answered}
 use Rattle.record.specs.declared.Record.{Record}
 use Rattle.taking.specs.declared.Taken.{Taken}
@@ -25,7 +25,8 @@ use Rattle.taking.proofs.Reports.{reports-early}
 pub record Tried (d : List ℕ) (next : ℕ) (h : Holding) (number p n : ℕ) : Type 0 where
   pub inside : endAt d p ≤ length d
   pub others : fills d (endAt d p) (n - 1) ≡ true
-  pub goes-on : holdAll next h number (blocksFrom d p n) ≡ holdAll next (holdOne next h number (first (drop p d))) (number + 1) (blocksFrom d (endAt d p) (n - 1))
+  pub goes-on : holdAll next h number (blocksFrom d p n) ≡ holdAll next (holdOne next h number (first (drop p d))) (number + 1)
+      (blocksFrom d (endAt d p) (n - 1))
 
 pub tried : (d : List ℕ) (next : ℕ) (h : Holding) (number p n : ℕ) → 0 < n → fills d p n ≡ true → Tried d next h number p n
 unfolding holdAll
@@ -35,10 +36,15 @@ tried d next h number p n some f =
     let t = stepped-at (n - 1) d p (blocksFrom d p n) (ap (λ (k : ℕ). cut k (drop p d)) (sym s) ∙ c) in
     let o : blocksFrom d (endAt d p) (n - 1) ≡ t .others = rw (t .cuts) in
     let e : suc number ≡ number + 1 = omega arith in
-    record { inside = t .inside; others = rw (le-leb (endAt d p) (length d) (t .inside), t .cuts); goes-on = ap (holdAll next h number) (t .are) ∙ rw (o, ← e) refl }
+    record {
+      inside = t .inside;
+      others = rw (le-leb (endAt d p) (length d) (t .inside), t .cuts);
+      goes-on = ap (holdAll next h number) (t .are) ∙ rw (o, ← e) refl;
+    }
 
 -- none are left
-pub none-tried : (d : List ℕ) (next : ℕ) (h : Holding) (number p n : ℕ) → n ≤ 0 → fills d p n ≡ true → holdAll next h number (blocksFrom d p n) ≡ h
+pub none-tried : (d : List ℕ) (next : ℕ) (h : Holding) (number p n : ℕ) → n ≤ 0 → fills d p n ≡ true
+    → holdAll next h number (blocksFrom d p n) ≡ h
 unfolding holdAll
 none-tried d next h number p n z f =
     let e : n ≡ 0 = omega arith in
@@ -50,19 +56,25 @@ pub one-long : (next : ℕ) (h : Holding) (number : ℕ) (message : List ℕ) �
 unfolding holdAll
 one-long next h number message = all-keeps next h number (message ∷ []) .long
 
-module _ (r : Record) (area : List ℕ) (from count : ℕ) (ms : List (List ℕ)) (l : length ms ≡ count) (h : hangs r ≡ true) (a : r .next .0 < from) where
+module _ (r : Record) (area : List ℕ) (from count : ℕ) (ms : List (List ℕ)) (l : length ms ≡ count) (h : hangs r ≡ true)
+    (a : r .next .0 < from) where
   -- the packet contradicts
-  pub early-clash : clash r (from + count - 1) false ≡ true → Answered (reporting r area 0 (messages from ms)) area [] (takes.Refused 12) area []
+  pub early-clash : clash r (from + count - 1) false ≡ true → Answered (reporting r area 0 (messages from ms)) area [] (takes.Refused 12)
+      area []
   early-clash c = rw (reports-early r area 0 from ms h a, l, c) (record { answer = refl; bytes = refl; slots = refl })
 
   -- or its messages are held
-  pub early-kept : (held : ℕ) (left : List ℕ) → clash r (from + count - 1) false ≡ false → Held (holdAll (r .next .0) (record { held = r .held; area = area }) from ms) held left
-      → Answered (reporting r area 0 (messages from ms)) area [] (takes.Took 0 0 (told r (r .next .0) held (from + count - 1) false)) left []
+  pub early-kept : (held : ℕ) (left : List ℕ) → clash r (from + count - 1) false ≡ false
+      → Held (holdAll (r .next .0) (record { held = r .held; area = area }) from ms) held left
+      → Answered (reporting r area 0 (messages from ms)) area [] (takes.Took 0 0 (told r (r .next .0) held (from + count - 1) false)) left
+      []
   unfolding frames
-  early-kept held left c k = rw (reports-early r area 0 from ms h a, l, c, k .bitmap, k .bytes) (record { answer = refl; bytes = refl; slots = refl })
+  early-kept held left c k = rw (reports-early r area 0 from ms h a, l, c, k .bitmap, k .bytes)
+      (record { answer = refl; bytes = refl; slots = refl })
 
   -- and the output does not matter
-  pub early-any : (t : Taken) (left out : List ℕ) → Answered (reporting r area 0 (messages from ms)) area [] t left [] → Answered (reporting r area (length out) (messages from ms)) area out t left out
+  pub early-any : (t : Taken) (left out : List ℕ) → Answered (reporting r area 0 (messages from ms)) area [] t left []
+      → Answered (reporting r area (length out) (messages from ms)) area out t left out
   unfolding frames
   early-any t left out e =
       let f = rw (reports-early r area 0 from ms h a, l) at e in

@@ -1,3 +1,3 @@
 pub mod Room
-pub mod Steps
+pub mod Handing
 pub mod Taking

@@ -13,7 +13,7 @@ use Rattle.held.specs.Hanging.{sound}
 use Rattle.held.specs.Holding.{Holding, holdAll}
 use Rattle.held.specs.Releasing.{released}
 use Rattle.record.specs.Record.{hangs}
-use Rattle.hearing.specs.Hearing.{Report, messages, news, end, topOf, isEnd, hear}
+use Rattle.reports.specs.Reports.{Report, messages, news, end, topOf, isEnd, reportOf}
 use Rattle.record.specs.declared.Record.{Record}
 use Rattle.taking.specs.declared.Taken.{Taken}
 use Rattle.taking.specs.declared.Taken.the-variants as takes
@@ -93,7 +93,7 @@ broken r area = (hangs r else 10) ∷ (sound (r .held) area else 10) ∷ []
 
 -- the order of refusals: 10; the reader's; 16; 11; 12; 9
 unfoldable pub taking : Record → List ℕ → List ℕ → ℕ → Verdict Taking
-taking r area d room = checked (broken r area) (hear (r .session) d into reporting r area room)
+taking r area d room = checked (broken r area) (reportOf (r .session) d into reporting r area room)
 
 -- the answer: how many bytes and messages are delivered, and the record afterwards
 abbrev pub takenOf : Verdict Taking → Taken

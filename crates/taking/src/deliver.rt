@@ -7,7 +7,7 @@ use wire::output::Written;
 use wire::refusal;
 ghost use lib.ListN.{length};
 ghost use Rattle.wire.specs.Reply.{Settled};
-ghost use Rattle.taking.specs.Steps.{handedOwn, handed, Handed};
+ghost use Rattle.taking.specs.Handing.{handedOwn, handed, Handed};
 
 pub(crate) enum Delivered {
     Refused(u8),
@@ -17,7 +17,8 @@ pub(crate) enum Delivered {
 
 // Where nothing is held.
 pub(crate) fn deliver_own(datagram: &[u8], place: usize, k: u64, out: &mut [u8]) -> Written
-    ensures { λ r. ⌜ Settled (handedOwn k (now (datagram .entry)) place (length (now (out .entry)))) (now (out .entry)) r (now (out .exit)) ⌝ }
+    ensures { λ r. ⌜ Settled (handedOwn k (now (datagram .entry)) place (length (now (out .entry)))) (now (out .entry)) r (now (out .exit))
+        ⌝ }
 {
     let start = blocks::skip(datagram, place, k);
     match start {
@@ -42,7 +43,8 @@ pub(crate) fn deliver(
     area: &[u8],
     out: &mut [u8],
 ) -> Delivered
-    ensures { λ r. ⌜ Handed (handed k (now (datagram .entry)) place held (now (area .entry)) number (length (now (out .entry)))) (now (out .entry)) r (now (out .exit)) ⌝ }
+    ensures { λ r. ⌜ Handed (handed k (now (datagram .entry)) place held (now (area .entry)) number (length (now (out .entry))))
+        (now (out .entry)) r (now (out .exit)) ⌝ }
 {
     let start = blocks::skip(datagram, place, k);
     match start {

@@ -9,12 +9,12 @@ use crate::deliver::deliver_own;
 use crate::early::hold_early;
 use crate::tell::contradicts;
 use crate::tell::tell;
-use hearing::Heard;
-use hearing::hear;
 use held::hanging::is_whole;
 use held::slots::free_from;
 use record::Record;
 use record::hangs::is_well_kept;
+use reports::Reported;
+use reports::report_of;
 use wire::output::Written;
 use wire::refusal;
 ghost use mathlib.Core.Path.{_≡_};
@@ -24,9 +24,9 @@ ghost use Prim.Native.Nat.{_+_, _≤_, _<_};
 ghost use lib.ListN.{length};
 ghost use Rattle.held.specs.Hanging.{sound};
 ghost use Rattle.record.specs.Record.{hangs};
-ghost use Rattle.hearing.specs.Hearing.{messages, Fills, blocksFrom};
+ghost use Rattle.reports.specs.Reports.{messages, Fills, blocksFrom};
 ghost use Rattle.taking.specs.Taking.{reporting, taking, takenOf, Answered};
-ghost use Rattle.taking.specs.Steps.{passing};
+ghost use Rattle.taking.specs.Handing.{passing};
 
 pub enum Taken {
     Refused(u8),
@@ -63,7 +63,9 @@ fn hand_over_own(
     out: &mut [u8],
 ) -> Taken
     requires { ⌜ (kept .held ≡ 0) × Fills (now datagram) place first count × (first ≤ kept .next .0) × (kept .next .0 < first + count) ⌝ }
-    ensures { λ r. ⌜ Answered (reporting kept (now (area .entry)) (length (now (out .entry))) (messages first (blocksFrom (now (datagram .entry)) place count))) (now (area .entry)) (now (out .entry)) r (now (area .entry)) (now (out .exit)) ⌝ }
+    ensures { λ r. ⌜ Answered (reporting kept (now (area .entry)) (length (now (out .entry)))
+        (messages first (blocksFrom (now (datagram .entry)) place count))) (now (area .entry)) (now (out .entry)) r (now (area .entry))
+        (now (out .exit)) ⌝ }
 {
     let next = kept.next;
     let past = first + count as u64;
@@ -95,8 +97,11 @@ fn hand_over(
     place: usize,
     out: &mut [u8],
 ) -> Taken
-    requires { ⌜ (hangs kept ≡ true) × (sound (kept .held) (now area) ≡ true) × Fills (now datagram) place first count × (first ≤ kept .next .0) × (kept .next .0 < first + count) ⌝ }
-    ensures { λ r. ⌜ Answered (reporting kept (now (area .entry)) (length (now (out .entry))) (messages first (blocksFrom (now (datagram .entry)) place count))) (now (area .entry)) (now (out .entry)) r (now (area .entry)) (now (out .exit)) ⌝ }
+    requires { ⌜ (hangs kept ≡ true) × (sound (kept .held) (now area) ≡ true) × Fills (now datagram) place first count
+        × (first ≤ kept .next .0) × (kept .next .0 < first + count) ⌝ }
+    ensures { λ r. ⌜ Answered (reporting kept (now (area .entry)) (length (now (out .entry)))
+        (messages first (blocksFrom (now (datagram .entry)) place count))) (now (area .entry)) (now (out .entry)) r (now (area .entry))
+        (now (out .exit)) ⌝ }
 {
     let next = kept.next;
     let past = first + count as u64;
@@ -132,7 +137,9 @@ fn take_held(
     out: &mut [u8],
 ) -> Taken
     requires { ⌜ (hangs kept ≡ true) × (sound (kept .held) (now area) ≡ true) × Fills (now datagram) place first count ⌝ }
-    ensures { λ r. ⌜ Answered (reporting kept (now (area .entry)) (length (now (out .entry))) (messages first (blocksFrom (now (datagram .entry)) place count))) (now (area .entry)) (now (out .entry)) r (now (area .exit)) (now (out .exit)) ⌝ }
+    ensures { λ r. ⌜ Answered (reporting kept (now (area .entry)) (length (now (out .entry)))
+        (messages first (blocksFrom (now (datagram .entry)) place count))) (now (area .entry)) (now (out .entry)) r (now (area .exit))
+        (now (out .exit)) ⌝ }
 {
     let next = kept.next;
     let past = first + count as u64;
@@ -156,7 +163,9 @@ fn take_messages(
     out: &mut [u8],
 ) -> Taken
     requires { ⌜ (hangs kept ≡ true) × (sound (kept .held) (now area) ≡ true) × Fills (now datagram) place first count ⌝ }
-    ensures { λ r. ⌜ Answered (reporting kept (now (area .entry)) (length (now (out .entry))) (messages first (blocksFrom (now (datagram .entry)) place count))) (now (area .entry)) (now (out .entry)) r (now (area .exit)) (now (out .exit)) ⌝ }
+    ensures { λ r. ⌜ Answered (reporting kept (now (area .entry)) (length (now (out .entry)))
+        (messages first (blocksFrom (now (datagram .entry)) place count))) (now (area .entry)) (now (out .entry)) r (now (area .exit))
+        (now (out .exit)) ⌝ }
 {
     let next = kept.next;
     let past = first + count as u64;
@@ -173,7 +182,8 @@ fn take_messages(
 
 // The datagram is gone over three times at most: read, skipped to the next message, copied from there.
 pub fn take(kept: Record, area: &mut [u8], datagram: &[u8], out: &mut [u8]) -> Taken
-    ensures { λ r. ⌜ Answered (taking kept (now (area .entry)) (now (datagram .entry)) (length (now (out .entry)))) (now (area .entry)) (now (out .entry)) r (now (area .exit)) (now (out .exit)) ⌝ }
+    ensures { λ r. ⌜ Answered (taking kept (now (area .entry)) (now (datagram .entry)) (length (now (out .entry)))) (now (area .entry))
+        (now (out .entry)) r (now (area .exit)) (now (out .exit)) ⌝ }
 {
     if !is_well_kept(kept) {
         return Taken::Refused(refusal::BROKEN);
@@ -184,15 +194,15 @@ pub fn take(kept: Record, area: &mut [u8], datagram: &[u8], out: &mut [u8]) -> T
         return Taken::Refused(refusal::BROKEN);
     }
     let session = kept.session;
-    let heard = hear(session, datagram);
-    match heard {
-        Heard::Refused(number) => Taken::Refused(number),
-        Heard::Messages {
+    let reported = report_of(session, datagram);
+    match reported {
+        Reported::Refused(number) => Taken::Refused(number),
+        Reported::Messages {
             first,
             count,
             place,
         } => take_messages(kept, first.0, count, area, datagram, place, out),
-        Heard::News { highest } => pass(kept, highest.0, false),
-        Heard::End { total } => pass(kept, total.0, true),
+        Reported::News { highest } => pass(kept, highest.0, false),
+        Reported::End { total } => pass(kept, total.0, true),
     }
 }

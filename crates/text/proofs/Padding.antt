@@ -12,7 +12,8 @@ use Rattle.text.specs.Text.{letterOrDigit, blank, text, textThenSpaces, 
 
 module _ (t : List ℕ) (i : ℕ) where
   -- past the end
-  pub ends : length t ≤ i → (blank (drop i t) ≡ true) × (text (drop i t) ≡ true) × (textThenSpaces (drop i t) ≡ true) × (spacesThenText (drop i t) ≡ true)
+  pub ends : length t ≤ i → (blank (drop i t) ≡ true) × (text (drop i t) ≡ true) × (textThenSpaces (drop i t) ≡ true)
+      × (spacesThenText (drop i t) ≡ true)
   unfolding blank text textThenSpaces spacesThenText
   ends h = rw (drop-of-length-le t h) (refl, refl, refl, refl)
 
@@ -36,7 +37,8 @@ module _ (t : List ℕ) (i : ℕ) where
     spaces-stop e = rw (drop-cons t i 0 h, ne-eqb (getD t i 0) 32 e)
 
     -- at a letter or digit
-    pub text-goes-on : letterOrDigit (getD t i 0) ≡ true → (text (drop i t) ≡ text (drop (i + 1) t)) × (textThenSpaces (drop i t) ≡ textThenSpaces (drop (i + 1) t))
+    pub text-goes-on : letterOrDigit (getD t i 0) ≡ true → (text (drop i t) ≡ text (drop (i + 1) t))
+        × (textThenSpaces (drop i t) ≡ textThenSpaces (drop (i + 1) t))
     unfolding text textThenSpaces
     text-goes-on e = rw (drop-cons t i 0 h, e, add-one) (refl, refl)
 

@@ -27,7 +27,16 @@ letter-high b e =
     by-test (leb b 122) (leb-true b 122)
     (λ q.
     let h = leb-false b 122 q in
-    let none : letterOrDigit b ≡ false = rw (le-leb 48 b (omega arith), lt-leb b 57 (omega arith), le-leb 65 b (omega arith), lt-leb b 90 (omega arith), le-leb 97 b (omega arith), lt-leb b 122 (omega arith)) in
+    let none : letterOrDigit b ≡ false =
+    rw (
+      le-leb 48 b (omega arith),
+      lt-leb b 57 (omega arith),
+      le-leb 65 b (omega arith),
+      lt-leb b 90 (omega arith),
+      le-leb 97 b
+          (omega arith),
+      lt-leb b 122 (omega arith),
+    ) in
     absurd (true≢false (sym e ∙ none)))
 
 module _ (P : List ℕ → Type 0) (none : P []) (more : (b : ℕ) (s : List ℕ) → 32 ≤ b → b ≤ 122 → P s → P (b ∷ s)) where

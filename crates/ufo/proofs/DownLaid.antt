@@ -42,11 +42,13 @@ pub length-laid : (first count : ℕ) (blocks : List ℕ) → length (laid first
 length-laid first count blocks = simp (length-append, length-bytesOf) (omega arith)
 
 -- the fields and the blocks, stored one after the other, are the packet
-pub laid-stored : (first count : ℕ) (blocks out : List ℕ) → sets (sets (sets (set out 0 83) 1 (bytesOf 4 first)) 5 (bytesOf 2 count)) 7 blocks ≡ sets out 0 (laid first count blocks)
+pub laid-stored : (first count : ℕ) (blocks out : List ℕ) → sets (sets (sets (set out 0 83) 1 (bytesOf 4 first)) 5 (bytesOf 2 count)) 7
+    blocks ≡ sets out 0 (laid first count blocks)
 unfolding bytesOf
 laid-stored first count blocks out = refl
 
-pub laid-accept : (session : List ℕ) (next : ℕ) → length session ≡ 10 → next < 2 ^ 32 → read (write (accept session next)) ≡ checked (ofAccept session next) (taken (accept session next))
+pub laid-accept : (session : List ℕ) (next : ℕ) → length session ≡ 10 → next < 2 ^ 32 → read (write (accept session next)) ≡ checked
+    (ofAccept session next) (taken (accept session next))
 unfolding read readA
 laid-accept session next l h =
     let t = bytesOf 4 next in
@@ -57,10 +59,18 @@ pub laid-reject : (reason : ℕ) → read (write (reject reason)) ≡ checked (o
 unfolding read readJ
 laid-reject reason = refl
 
-pub laid-messages : (first count : ℕ) (blocks : List ℕ) → first < 2 ^ 32 → count < 2 ^ 16 → read (laid first count blocks) ≡ checked (ofMessages first count blocks) (taken (messages first (messagesOf (cut count blocks))))
+pub laid-messages : (first count : ℕ) (blocks : List ℕ) → first < 2 ^ 32 → count < 2 ^ 16
+    → read (laid first count blocks) ≡ checked (ofMessages first count blocks) (taken (messages first (messagesOf (cut count blocks))))
 unfolding read readS bytesOf
 laid-messages first count blocks h k =
-    rw (length-laid first count blocks, ne-eqb (7 + length blocks) 0 (λ e. omega arith), le-leb 7 (7 + length blocks) (omega arith), be-bytesOf 4 first (bytesOf 2 count ++ blocks) h, be-bytesOf 2 count blocks k)
+    rw (
+      length-laid first count blocks,
+      ne-eqb (7 + length blocks) 0 (λ e. omega arith),
+      le-leb 7 (7 + length blocks)
+          (omega arith),
+      be-bytesOf 4 first (bytesOf 2 count ++ blocks) h,
+      be-bytesOf 2 count blocks k,
+    )
 
 pub laid-end : (total : ℕ) → total < 2 ^ 32 → read (write (end total)) ≡ checked (ofEnd total) (taken (end total))
 unfolding read readE

@@ -7,7 +7,8 @@ use Rattle.wire.specs.Checks.{refused, taken, Passed}
 use Rattle.wire.specs.Datagram.{opening}
 use Rattle.wire.proofs.Checks.{not-both, all-passed, came-by}
 use Rattle.blocks.specs.Blocks.{messagesOf}
-use Rattle.ufo.specs.Down.{Packet, accept, reject, messages, end, sessionA, nextA, checksA, readA, reasonJ, checksJ, readJ, firstS, blocksS, checksS, readS, totalE, checksE, readE, kind, byKind, read}
+use Rattle.ufo.specs.Down.{Packet, accept, reject, messages, end, sessionA, nextA, checksA, readA, reasonJ, checksJ, readJ, firstS}
+use Rattle.ufo.specs.Down.{blocksS, checksS, readS, totalE, checksE, readE, kind, byKind, read}
 
 pub data Came (d : List ℕ) (p : Packet) : Type 0 where
   by-A : kind d ≡ 65 → Passed (checksA d) → accept (sessionA d) (nextA d) ≡ p → Came d p
@@ -20,5 +21,8 @@ unfolding read readA readJ readS readE
 came d p e =
     let k = kind d in
     let c = all-passed (opening d) (byKind d) p e in
-    let other = not-both (refused 3) 3 p refl in
-    (c .0, came-by k 65 (checksA d) _ p _ by-A (came-by k 74 (checksJ d) _ p _ by-J (came-by k 83 (checksS d) _ p _ by-S (came-by k 69 (checksE d) _ p _ by-E other))) (c .1))
+    let other = not-both (refused 3) 3 p refl in (
+      c .0,
+      came-by k 65 (checksA d) _ p _ by-A
+          (came-by k 74 (checksJ d) _ p _ by-J (came-by k 83 (checksS d) _ p _ by-S (came-by k 69 (checksE d) _ p _ by-E other))) (c .1),
+    )

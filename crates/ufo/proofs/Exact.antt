@@ -18,7 +18,8 @@ use Rattle.wire.proofs.Width.{be-lt, bytes-drop, length-part, part-again, first
 use Rattle.blocks.specs.Blocks.{frames, messagesOf}
 use Rattle.blocks.proofs.Frames.{short-frames}
 use Rattle.blocks.proofs.Cutting.{cut-frames, frames-cut}
-use Rattle.ufo.specs.Down.{Packet, accept, reject, messages, end, write, Fit, kind, sessionA, nextA, checksA, reasonJ, checksJ, firstS, countS, blocksS, checksS, totalE, checksE, read}
+use Rattle.ufo.specs.Down.{Packet, accept, reject, messages, end, write, Fit, kind, sessionA, nextA, checksA, reasonJ, checksJ}
+use Rattle.ufo.specs.Down.{firstS, countS, blocksS, checksS, totalE, checksE, read}
 use Rattle.blocks.proofs.Counting.{whole-is, count-frames}
 use Rattle.ufo.proofs.DownLaid.{ofAccept, length-laid, laid-accept, laid-reject, laid-messages, laid-end}
 use Rattle.ufo.proofs.DownTaken.{Came, by-A, by-J, by-S, by-E, came}
@@ -26,7 +27,8 @@ use Rattle.ufo.proofs.DownTaken.{Came, by-A, by-J, by-S, by-E, came}
 pub written-is-read : (p : Packet) → Fit p → read (write p) ≡ taken p
 written-is-read (accept session next) f =
     laid-accept session next (f .ten) (omega (arith, f .bound))
-    ∙ passed-all (ofAccept session next) (taken (accept session next)) (f .letters, (ap not (f .named), (not-zero next (f .some), (le-leb next (2 ^ 32 - 1) (f .bound), tt))))
+    ∙ passed-all (ofAccept session next) (taken (accept session next))
+    (f .letters, (ap not (f .named), (not-zero next (f .some), (le-leb next (2 ^ 32 - 1) (f .bound), tt))))
 written-is-read (reject reason) f = laid-reject reason ∙ rw (one-of-test reason 65 83 f)
 written-is-read (messages first ms) f =
     let s = frames ms in
@@ -58,12 +60,14 @@ module _ (d : List ℕ) (b : Bytes d) where
       let n : drop 2 d ≡ [] = drop-of-length-le d {i = 2} (omega arith) in
       (one-of-fact (reasonJ d) 65 83 (c .1 .0), rw (← n, ← s) (first-again 74 d (omega arith) k))
 
-  back-S : length d ≤ limit → kind d ≡ 83 → Passed (checksS d) → let p = messages (firstS d) (messagesOf (blocksS d)) in Fit p × (write p ≡ d)
+  back-S : length d ≤ limit → kind d ≡ 83 → Passed (checksS d) → let p = messages (firstS d) (messagesOf (blocksS d)) in Fit p
+      × (write p ≡ d)
   back-S h k c =
       let ms = messagesOf (blocksS d) in
       let l : 7 ≤ length d = leb-true 7 (length d) (c .0) in
       let f = frames-cut (countS d) (drop 7 d) ms (bytes-drop 7 d b) (whole-is (blocksS d) (c .1 .0)) in
-      let w : write (messages (firstS d) ms) ≡ d = rw (f .0, f .1, written-again 2 5 d b (omega arith), written-again 4 1 d b (omega arith)) (first-again 83 d (omega arith) k) in (
+      let w : write (messages (firstS d) ms) ≡ d = rw (f .0, f .1, written-again 2 5 d b (omega arith), written-again 4 1 d b (omega arith))
+      (first-again 83 d (omega arith) k) in (
         record {
           some = nonzero (firstS d) (c .1 .1 .0);
           bound = rw (f .1) (leb-true (firstS d + countS d) (2 ^ 32 - 1) (c .1 .1 .1 .0));

@@ -41,7 +41,8 @@ lawful (x ∷ p) b ms e =
 -- a packet behind another needs the room that is left
 behind-room : (p q : List ℕ) (room : ℕ) → length p ≤ room → within room (p ++ q) ≡ within (room - length p) q into (λ b. taken (p ++ b))
 behind-room p q room h =
-    let same : leb (length p + length q) room ≡ leb (length q) (room - length p) = leb-same (length p + length q) room (length q) (room - length p) (λ t. omega arith) (λ t. omega arith) in
+    let same : leb (length p + length q) room ≡ leb (length q) (room - length p) = leb-same (length p + length q) room (length q)
+    (room - length p) (λ t. omega arith) (λ t. omega arith) in
     rw (length-append, same) (by-test (leb (length q) (room - length p)) (λ t. rw t) (λ t. rw t))
 
 -- a number brought down to what its field can hold takes as many bytes
@@ -79,9 +80,15 @@ module _ (out : List ℕ) (used : ℕ) (g : Begun out used) where
         let n = length-so-far in
         let k = length-capped m in
         let s = begun-short in
-        rw (le-leb used (length out) (g .inside), g .begun .is, read-over (take used out) (writeMessage (cappedIn m)) (omega (arith, length-frame (writeMessage m))))
+        rw (
+          le-leb used (length out) (g .inside),
+          g .begun .is,
+          read-over (take used out) (writeMessage (cappedIn m))
+              (omega (arith, length-frame (writeMessage m))),
+        )
 
-    pub add-behind : leb (length (frame (writeMessage m))) (limit - used) ≡ true → addReply m out used ≡ reply m (length out - used) into (λ b. taken (take used out ++ b))
+    pub add-behind : leb (length (frame (writeMessage m))) (limit - used) ≡ true
+        → addReply m out used ≡ reply m (length out - used) into (λ b. taken (take used out ++ b))
     unfolding addReply verdictAfter reply verdict
     add-behind t =
         let w = writeMessage (cappedIn m) in
@@ -91,10 +98,16 @@ module _ (out : List ℕ) (used : ℕ) (g : Begun out used) where
         let k = length-capped m in
         let s = begun-short in
         let some = full-message (cappedIn m) in
-        let behind : readUp (take used out ++ frame w) ≡ readMessage w into (λ x. taken (ms ++ (x ∷ []))) = rw (← so-far .bytes) (read-behind ms w (so-far .all) some (rw (so-far .bytes) (omega arith))) in
-        let alone : readUp (frame w) ≡ readMessage w into (λ x. taken (x ∷ [])) = read-one w some ∙ rw (le-leb (2 + length w) limit (omega arith)) in
+        let behind : readUp (take used out ++ frame w) ≡ readMessage w into (λ x. taken (ms ++ (x ∷ []))) =
+        rw (← so-far .bytes) (read-behind ms w (so-far .all) some (rw (so-far .bytes) (omega arith))) in
+        let alone : readUp (frame w) ≡ readMessage w into (λ x. taken (x ∷ [])) = read-one w some
+        ∙ rw (le-leb (2 + length w) limit (omega arith)) in
         rw (le-leb used (length out) (g .inside), g .begun .is, behind, alone) (by (readMessage w) (heldIn m)) where
-          by : (v : Verdict Message) (b : Bool) → settle ((v into (λ x. taken (ms ++ (x ∷ [])))) into (λ os. checked ((b else 7) ∷ []) (taken os))) (take used out ++ frame (writeMessage m)) (length out) ≡ settle ((v into (λ x. taken (x ∷ []))) into (λ os. checked ((b else 7) ∷ []) (taken os))) (frame (writeMessage m)) (length out - used) into (λ q. taken (take used out ++ q))
+          by : (v : Verdict Message) (b : Bool)
+              → settle ((v into (λ x. taken (ms ++ (x ∷ [])))) into (λ os. checked ((b else 7) ∷ []) (taken os)))
+              (take used out ++ frame (writeMessage m)) (length out) ≡ settle
+              ((v into (λ x. taken (x ∷ []))) into (λ os. checked ((b else 7) ∷ []) (taken os))) (frame (writeMessage m))
+              (length out - used) into (λ q. taken (take used out ++ q))
           by (refused n) b = refl
           by (taken x) false = refl
           by (taken x) true =

@@ -16,11 +16,14 @@ use Rattle.ufo_up.proofs.UpPacket.{opened}
 use Rattle.ufo_up.proofs.Exact.{read-each, full-messages}
 
 -- each message in turn, and then one more
-each-more : (bs : List (List ℕ)) (w : List ℕ) → readEach (bs ++ (w ∷ [])) ≡ readEach bs into (λ ms. readMessage w into (λ x. taken (ms ++ (x ∷ []))))
+each-more : (bs : List (List ℕ)) (w : List ℕ)
+    → readEach (bs ++ (w ∷ [])) ≡ readEach bs into (λ ms. readMessage w into (λ x. taken (ms ++ (x ∷ []))))
 unfolding readEach
 each-more [] w = refl
 each-more (b ∷ bs) w = rw (each-more bs w) (by (readMessage b) (readEach bs) (readMessage w)) where
-  by : (u : Verdict Message) (v : Verdict (List Message)) (t : Verdict Message) → u into (λ m. (v into (λ ms. t into (λ x. taken (ms ++ (x ∷ []))))) into (λ ms. taken (m ∷ ms))) ≡ (u into (λ m. v into (λ ms. taken (m ∷ ms)))) into (λ ms. t into (λ x. taken (ms ++ (x ∷ []))))
+  by : (u : Verdict Message) (v : Verdict (List Message)) (t : Verdict Message)
+      → u into (λ m. (v into (λ ms. t into (λ x. taken (ms ++ (x ∷ []))))) into (λ ms. taken (m ∷ ms)))
+      ≡ (u into (λ m. v into (λ ms. taken (m ∷ ms)))) into (λ ms. t into (λ x. taken (ms ++ (x ∷ []))))
   by (refused n) v t = refl
   by (taken m) (refused n) t = refl
   by (taken m) (taken ms) (refused n) = refl
@@ -39,11 +42,14 @@ module _ (p w : List ℕ) where
   read-over h =
       rw (length-behind, ne-eqb (length p + (2 + length w)) 0 (λ z. omega arith), lt-leb (length p + (2 + length w)) limit h)
 
-pub read-behind : (ms : List Message) (w : List ℕ) → FitAll ms → 0 < length w → length (writeUp ms) + (2 + length w) ≤ limit → readUp (writeUp ms ++ frame w) ≡ readMessage w into (λ x. taken (ms ++ (x ∷ [])))
+pub read-behind : (ms : List Message) (w : List ℕ) → FitAll ms → 0 < length w → length (writeUp ms) + (2 + length w) ≤ limit
+    → readUp (writeUp ms ++ frame w) ≡ readMessage w into (λ x. taken (ms ++ (x ∷ [])))
 read-behind ms w f h l =
     let bs = map writeMessage ms ++ (w ∷ []) in
     let same : frames bs ≡ writeUp ms ++ frame w = frames-append (map writeMessage ms) (w ∷ []) ∙ rw (frames-one w) in
     let n : length (frames bs) ≡ length (writeUp ms) + (2 + length w) = ap length same ∙ length-behind (writeUp ms) w in
     let some : 0 < length bs = rw length-append (omega arith) in
-    let u : upstream (frames bs) ≡ whole bs = upstream-frames bs some (short-frames bs (omega arith)) (full-more (map writeMessage ms) w (full-messages ms) h) in
-    rw (← same) (opened (frames bs) (λ z. omega arith) (omega arith) ∙ ap readCut u ∙ each-more (map writeMessage ms) w ∙ rw (read-each ms f))
+    let u : upstream (frames bs) ≡ whole bs = upstream-frames bs some (short-frames bs (omega arith))
+    (full-more (map writeMessage ms) w (full-messages ms) h) in
+    rw (← same) (opened (frames bs) (λ z. omega arith) (omega arith) ∙ ap readCut u ∙ each-more (map writeMessage ms) w
+    ∙ rw (read-each ms f))

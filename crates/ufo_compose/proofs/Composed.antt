@@ -1,4 +1,5 @@
--- What is added to nothing, message by message, is what writes the messages together; and whatever is made is a packet that the reader takes.
+-- What is added to nothing, message by message, is what writes the messages together; and whatever is made is a packet that the reader
+-- takes.
 -- Assumes nothing.
 use Prim.Native.Nat.{ℕ, _+_, _≤_}
 use mathlib.Core.List.{List, [], _∷_, _++_, map, append-assoc, append-nil}
@@ -33,26 +34,30 @@ module _ (m : Message) (out : List ℕ) (used : ℕ) (q : List ℕ) where
     pub bytes : take used out ++ frame (writeMessage m) ≡ q
     pub read : Took (readUp q)
 
-  settled : (v : Verdict (List Message)) → verdictAfter (take used out) m ≡ v → settle v (take used out ++ frame (writeMessage m)) (length out) ≡ taken q → Made
+  settled : (v : Verdict (List Message)) → verdictAfter (take used out) m ≡ v → settle v (take used out ++ frame (writeMessage m))
+      (length out) ≡ taken q → Made
   unfolding verdictAfter
   settled (refused n) e t = not-both (refused n) n q refl t
   settled (taken ms) e t =
       let same = within-taken (length out) (take used out ++ frame (writeMessage m)) q t in
       let w = went (readUp (take used out ++ frame (writeMessage (cappedIn m)))) (λ os. checked ((heldIn m else 7) ∷ []) (taken os)) ms e in
       let h = all-passed ((heldIn m else 7) ∷ []) (taken (w .by)) ms (w .gave) .0 .0 in
-      let read : readUp (take used out ++ frame (writeMessage m)) ≡ taken (w .by) = ap (λ (x : Message). readUp (take used out ++ frame (writeMessage x))) (sym (held-same m h)) ∙ w .was in
+      let read : readUp (take used out ++ frame (writeMessage m)) ≡ taken (w .by) =
+      ap (λ (x : Message). readUp (take used out ++ frame (writeMessage x))) (sym (held-same m h)) ∙ w .was in
       record { bytes = same; read = record { messages = w .by; is = rw same at read } }
 
   pub made : addReply m out used ≡ taken q → Made
   unfolding addReply
   made e =
       let p = take used out in
-      let a = all-passed ((used atMost length out else 4) ∷ []) (soFar p into (λ _. settle (verdictAfter p m) (p ++ frame (writeMessage m)) (length out))) q e in
+      let a = all-passed ((used atMost length out else 4) ∷ [])
+      (soFar p into (λ _. settle (verdictAfter p m) (p ++ frame (writeMessage m)) (length out))) q e in
       let w = went (soFar p) (λ _. settle (verdictAfter p m) (p ++ frame (writeMessage m)) (length out)) q (a .1) in
       settled (verdictAfter p m) refl (w .gave)
 
 -- whatever is composed from nothing is the messages written together
-composed-behind : (ms : List Message) (out : List ℕ) (used : ℕ) (q : List ℕ) → composed ms out used ≡ taken q → q ≡ take used out ++ writeUp ms
+composed-behind : (ms : List Message) (out : List ℕ) (used : ℕ) (q : List ℕ) → composed ms out used ≡ taken q
+    → q ≡ take used out ++ writeUp ms
 unfolding frames
 composed-behind [] out used q e = taken-same q (take used out) (sym e) ∙ sym (append-nil (take used out))
 composed-behind (m ∷ ms) out used q e =
@@ -75,24 +80,30 @@ unfolding frames
 written-so-far [] f h = refl
 written-so-far (m ∷ a) f h =
     let l = length-frames (writeMessage m) (map writeMessage a) in
-    rw (ne-eqb (length (writeUp (m ∷ a))) 0 (λ z. omega arith)) (written-is-read (m ∷ a) (record { some = omega arith; all = f; short = h }))
+    rw (ne-eqb (length (writeUp (m ∷ a))) 0 (λ z. omega arith))
+    (written-is-read (m ∷ a) (record { some = omega arith; all = f; short = h }))
 
 module _ (a : List Message) (m : Message) where
   write-more : writeUp (a ++ (m ∷ [])) ≡ writeUp a ++ frame (writeMessage m)
   write-more = write-append a (m ∷ []) ∙ rw (frames-one (writeMessage m))
 
   -- a lawful message behind lawful ones is taken if the limit and the room allow it
-  pub add-fit : (out : List ℕ) → FitAll a → FitMessage m → take (length (writeUp a)) out ≡ writeUp a → length (writeUp (a ++ (m ∷ []))) ≤ limit → length (writeUp (a ++ (m ∷ []))) ≤ length out → addReply m out (length (writeUp a)) ≡ taken (writeUp (a ++ (m ∷ [])))
+  pub add-fit : (out : List ℕ) → FitAll a → FitMessage m → take (length (writeUp a)) out ≡ writeUp a
+      → length (writeUp (a ++ (m ∷ []))) ≤ limit → length (writeUp (a ++ (m ∷ []))) ≤ length out
+      → addReply m out (length (writeUp a)) ≡ taken (writeUp (a ++ (m ∷ [])))
   unfolding addReply verdictAfter
   add-fit out f g e l h =
       let n = length-more a m in
       let t = fit-held m g in
       let fit : Fit (a ++ (m ∷ [])) = record { some = rw length-append (omega arith); all = fit-more a m f g; short = l } in
-      let read : readUp (writeUp a ++ frame (writeMessage m)) ≡ taken (a ++ (m ∷ [])) = rw (← write-more) (written-is-read (a ++ (m ∷ [])) fit) in
+      let read : readUp (writeUp a ++ frame (writeMessage m)) ≡ taken (a ++ (m ∷ [])) =
+      rw (← write-more) (written-is-read (a ++ (m ∷ [])) fit) in
       rw (le-leb (length (writeUp a)) (length out) (omega arith), e, written-so-far a f (omega arith), held-same m t, read, t, ← write-more)
       (enough-room (writeUp (a ++ (m ∷ []))) (length out) h)
 
-composed-on : (b a : List Message) (out : List ℕ) → FitAll a → FitAll b → length (writeUp a) + length (writeUp b) ≤ limit → length (writeUp a) + length (writeUp b) ≤ length out → take (length (writeUp a)) out ≡ writeUp a → composed b out (length (writeUp a)) ≡ taken (writeUp a ++ writeUp b)
+composed-on : (b a : List Message) (out : List ℕ) → FitAll a → FitAll b → length (writeUp a) + length (writeUp b) ≤ limit
+    → length (writeUp a) + length (writeUp b) ≤ length out → take (length (writeUp a)) out ≡ writeUp a
+    → composed b out (length (writeUp a)) ≡ taken (writeUp a ++ writeUp b)
 unfolding frames
 composed-on [] a out f g l h e = ap taken (e ∙ sym (append-nil (writeUp a)))
 composed-on (m ∷ b) a out f g l h e =
@@ -100,8 +111,10 @@ composed-on (m ∷ b) a out f g l h e =
     let n = length-more a m in
     let k = length-frames (writeMessage m) (map writeMessage b) in
     let size : length (q ++ drop (length q) out) ≡ length out = rw (length-append, length-drop) (omega arith) in
-    let more = composed-on b (a ++ (m ∷ [])) (q ++ drop (length q) out) (fit-more a m f (g .0)) (g .1) (omega arith) (omega arith) (take-at q (drop (length q) out) (length q) refl) in
-    rw (add-fit a m out f (g .0) e (omega arith) (omega arith)) (more ∙ rw (write-more a m, append-assoc (writeUp a) (frame (writeMessage m)) (writeUp b)))
+    let more = composed-on b (a ++ (m ∷ [])) (q ++ drop (length q) out) (fit-more a m f (g .0)) (g .1) (omega arith) (omega arith)
+    (take-at q (drop (length q) out) (length q) refl) in
+    rw (add-fit a m out f (g .0) e (omega arith) (omega arith))
+    (more ∙ rw (write-more a m, append-assoc (writeUp a) (frame (writeMessage m)) (writeUp b)))
 
 -- and of a lawful packet that has room every message is taken
 pub composed-all : (ms : List Message) (out : List ℕ) → Fit ms → length (writeUp ms) ≤ length out → composed ms out 0 ≡ taken (writeUp ms)

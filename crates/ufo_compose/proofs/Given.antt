@@ -17,11 +17,13 @@ module _ (out last : List ℕ) (at n : ℕ) (h : at ≤ length out) where
   abbrev left : ℕ
   left = length out - at
 
-  pub given-refused : (y : Reply) (r : Written) → r ≡ Refused n → Settled y (midOf at left out) r last → Settled (y into (λ b. taken (take at out ++ b))) out (Refused n) (putMid at left out last)
+  pub given-refused : (y : Reply) (r : Written) → r ≡ Refused n → Settled y (midOf at left out) r last
+      → Settled (y into (λ b. taken (take at out ++ b))) out (Refused n) (putMid at left out last)
   given-refused (refused m) r e s = record { answer = sym e ∙ s .answer; bytes = rw (s .bytes) (put-same at left out) }
   given-refused (taken b) r e s = impossible (cc (s .answer, e))
 
-  pub given-written : (y : Reply) (r : Written) → r ≡ Bytes n → Settled y (midOf at left out) r last → Settled (y into (λ b. taken (take at out ++ b))) out (Bytes (at + n)) (putMid at left out last)
+  pub given-written : (y : Reply) (r : Written) → r ≡ Bytes n → Settled y (midOf at left out) r last
+      → Settled (y into (λ b. taken (take at out ++ b))) out (Bytes (at + n)) (putMid at left out last)
   given-written (refused m) r e s = impossible (cc (s .answer, e))
   given-written (taken b) r e s =
       let l : length (take at out ++ b) ≡ at + length b = rw (length-append, length-take) (omega arith) in
@@ -30,7 +32,8 @@ module _ (out last : List ℕ) (at n : ℕ) (h : at ≤ length out) where
       let none : drop left (drop at out) ≡ [] = drop-of-length-le (drop at out) {i = left} (rw length-drop (omega arith)) in
       record { answer = rw (l, k); bytes = rw (s .bytes, whole, none, append-nil, drop-drop, l, append-assoc) }
 
-  pub given-inside : (y : Reply) (r : Written) → r ≡ Bytes n → Settled y (midOf at left out) r last → length last ≡ length (midOf at left out) → at + n ≤ length out
+  pub given-inside : (y : Reply) (r : Written) → r ≡ Bytes n → Settled y (midOf at left out) r last
+      → length last ≡ length (midOf at left out) → at + n ≤ length out
   given-inside (refused m) r e s l = impossible (cc (s .answer, e))
   given-inside (taken b) r e s l =
       let k : n ≡ length b = cc (s .answer, e) in

@@ -9,12 +9,14 @@ use lib.ListN.{replicate}
 use Rattle.wire.specs.Checks.{refused, taken}
 use Rattle.wire.proofs.Checks.{all-passed}
 use Rattle.text.specs.Text.{letterOrDigit, blank, textThenSpaces}
-use Rattle.ufo_up.specs.Up.{Message, login, writeMessage, Field, FitMessage, kind, userL, passwordL, sessionL, checksL, readL, readMessage}
+use Rattle.ufo_up.specs.Up.{Message, login, writeMessage, Field, FitMessage, kind, userL, passwordL, sessionL, checksL, readL}
+use Rattle.ufo_up.specs.Up.{readMessage}
 use Rattle.ufo_up.proofs.UpMessage.{of-kind}
 use Rattle.ufo_up.proofs.UpExactOne.{checks-login}
 
 -- six spaces for the user, and every check before it passed
-pub nameless-is-6 : (password session : List ℕ) → Field 10 password → Field 10 session → readMessage (writeMessage (login (replicate 6 32) password session)) ≡ refused 6
+pub nameless-is-6 : (password session : List ℕ) → Field 10 password → Field 10 session
+    → readMessage (writeMessage (login (replicate 6 32) password session)) ≡ refused 6
 unfolding blank textThenSpaces letterOrDigit
 nameless-is-6 password session p s =
     checks-login (replicate 6 32) password session refl (p .0) (s .0) ∙ rw (p .1, s .1)

@@ -12,9 +12,12 @@ use Rattle.wire.specs.Fields.{bytesOf, Bytes}
 use Rattle.wire.specs.Checks.{_is_, refused, taken, Check, _else_, checked, Passed}
 use Rattle.text.specs.Text.{blank, textThenSpaces}
 use Rattle.wire.proofs.Tests.{nonzero}
-use Rattle.wire.proofs.Width.{be-bytesOf, be-last, be-lt, bytes-drop, length-bytesOf, length-part, part-again, first-again, written-again, written-last}
+use Rattle.wire.proofs.Width.{be-bytesOf, be-last, be-lt, bytes-drop, length-bytesOf, length-part, part-again, first-again, written-again}
+use Rattle.wire.proofs.Width.{written-last}
 use Rattle.wire.proofs.Checks.{not-both, came-by}
-use Rattle.ufo_up.specs.Up.{Message, login, request, unsequenced, heartbeat, logout, writeMessage, FitMessage, kind, userL, passwordL, sessionL, firstT, countT, checksL, checksT, checksU, checksAlone, readL, readT, readU, readAlone, readMessage}
+use Rattle.ufo_up.specs.Up.{Message, login, request, unsequenced, heartbeat, logout, writeMessage, FitMessage, kind, userL, passwordL}
+use Rattle.ufo_up.specs.Up.{sessionL, firstT, countT, checksL, checksT, checksU, checksAlone, readL, readT, readU, readAlone}
+use Rattle.ufo_up.specs.Up.{readMessage}
 use Rattle.ufo_up.proofs.UpMessage.{of-kind}
 
 -- a message has a byte or more, and a lawful one goes into a packet
@@ -39,7 +42,8 @@ leftL u w s = (textThenSpaces u else 5) ∷ (textThenSpaces w else 5) ∷ (textT
 abbrev pub leftT : ℕ → ℕ → List Check
 leftT n c = (not (n is 0) else 6) ∷ (not (c is 0) else 6) ∷ []
 
-pub checks-login : (u w s : List ℕ) → length u ≡ 6 → length w ≡ 10 → length s ≡ 10 → readMessage (writeMessage (login u w s)) ≡ checked (leftL u w s) (taken (login u w s))
+pub checks-login : (u w s : List ℕ) → length u ≡ 6 → length w ≡ 10 → length s ≡ 10 → readMessage (writeMessage (login u w s)) ≡ checked
+    (leftL u w s) (taken (login u w s))
 unfolding readL
 checks-login u w s hu hw hs =
     let m = writeMessage (login u w s) in
@@ -50,7 +54,8 @@ checks-login u w s hu hw hs =
     let t : sessionL m ≡ s = rw c (take-all 10 s (omega arith)) in
     of-kind m 76 refl ∙ rw (eq-eqb (length m) 27 l, a, b, t)
 
-pub checks-request : (n c : ℕ) → n < 2 ^ 32 → c < 2 ^ 16 → readMessage (writeMessage (request n c)) ≡ checked (leftT n c) (taken (request n c))
+pub checks-request : (n c : ℕ) → n < 2 ^ 32 → c < 2 ^ 16 → readMessage (writeMessage (request n c)) ≡ checked (leftT n c)
+    (taken (request n c))
 unfolding readT
 checks-request n c hn hc =
     let m = writeMessage (request n c) in
@@ -107,7 +112,8 @@ module _ (s : List ℕ) (b : Bytes s) (m : Message) where
       let l = leb-true (length s) 1470 (p .0) in
       rw (← q) ((bytes-drop 1 s b, rw length-drop (omega arith)), first-again 85 s (omega arith) k)
 
-  written-alone : (said : Message) (n : ℕ) → FitMessage said → writeMessage said ≡ n ∷ [] → 0 < n → kind s ≡ n → Passed (checksAlone s) → said ≡ m → FitMessage m × (writeMessage m ≡ s)
+  written-alone : (said : Message) (n : ℕ) → FitMessage said → writeMessage said ≡ n ∷ [] → 0 < n → kind s ≡ n → Passed (checksAlone s)
+      → said ≡ m → FitMessage m × (writeMessage m ≡ s)
   written-alone said n f w h k p q =
       let l : length s ≡ 1 = eqb-true (length s) 1 (p .0) in
       let none : drop 1 s ≡ [] = drop-of-length-le s {i = 1} (omega arith) in

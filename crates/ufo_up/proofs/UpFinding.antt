@@ -13,7 +13,7 @@ use Rattle.wire.proofs.Checks.{not-both}
 use Rattle.blocks.specs.Blocks.{endAt, blockAt}
 use Rattle.blocks.specs.declared.Block.the-variants as block
 use Rattle.blocks.proofs.Frames.{frames-none}
-use Rattle.blocks.proofs.Steps.{Stands, found, missed}
+use Rattle.blocks.proofs.NextBlock.{Stands, found, missed}
 use Rattle.ufo_up.specs.Up.{Message, writeMessage, writeUp, readUp, messageAt, messageFrom, messageIn, isTaken}
 use Rattle.ufo_up.proofs.UpMessage.{over-at}
 use Rattle.ufo_up.proofs.UpInTurn.{length-more, read-there, read-last}
@@ -49,13 +49,20 @@ module _ (d : List ℕ) (bytes : Bytes d) (place at : ℕ) (r : Reaches d place 
   reaches-more h start size next f =
       let w = found d at start size next f in
       (by (r .others) (r .read) (r .answer) w, omega arith) where
-        by : (b : List Message) → readUp d ≡ taken (r .gone ++ b) → messageIn d place ≡ messageFrom at b place → Stands d at size next → Reaches d place next
+        by : (b : List Message) → readUp d ≡ taken (r .gone ++ b) → messageIn d place ≡ messageFrom at b place → Stands d at size next
+            → Reaches d place next
         by [] e q w = absurd (omega (arith, at-end e))
         by (m ∷ b) e q w =
             let more : readUp d ≡ taken ((r .gone ++ (m ∷ [])) ++ b) = rw (append-assoc (r .gone) (m ∷ []) b) e in
             let end : next ≡ length (writeUp (r .gone ++ (m ∷ []))) = w .0 ∙ rw (r .reached) (read-there d bytes (r .gone) m b e .1) in
             let same : at + 2 + length (writeMessage m) ≡ next = omega (arith, r .reached, length-more (r .gone) m) in
-            record { gone = r .gone ++ (m ∷ []); others = b; read = more; reached = end; answer = q ∙ rw (ne-eqb at place (λ z. omega arith), same) }
+            record {
+              gone = r .gone ++ (m ∷ []);
+              others = b;
+              read = more;
+              reached = end;
+              answer = q ∙ rw (ne-eqb at place (λ z. omega arith), same);
+            }
 
   pub reaches-out : (n : ℕ) → blockAt d at ≡ block.Refused n → messageIn d place ≡ refused n
   unfolding messageFrom

@@ -30,7 +30,8 @@ length-more a m =
     rw (write-append a (m ∷ []), frames-one (writeMessage m), length-append) (omega (arith, length-frame (writeMessage m)))
 
 -- of messages from `at` on, the one at the place where those before it end
-from-there : (at : ℕ) (a : List Message) (m : Message) (b : List Message) → messageFrom at (a ++ (m ∷ b)) (at + length (writeUp a)) ≡ taken m
+from-there : (at : ℕ) (a : List Message) (m : Message) (b : List Message) → messageFrom at (a ++ (m ∷ b)) (at + length (writeUp a)) ≡ taken
+    m
 unfolding messageFrom
 from-there at [] m b = rw (eq-eqb at (at + length (writeUp [])) (omega (arith, frames-none)))
 from-there at (x ∷ a) m b =
@@ -51,7 +52,8 @@ turn-inside d p (m ∷ ms) t = omega (arith, turn-inside d (endAt d p) ms (t .1)
 
 module _ (d : List ℕ) (bytes : Bytes d) where
   -- what stands after the messages a
-  pub read-there : (a : List Message) (m : Message) (b : List Message) → readUp d ≡ taken (a ++ (m ∷ b)) → (messageAt d (length (writeUp a)) ≡ taken m) × (endAt d (length (writeUp a)) ≡ length (writeUp (a ++ (m ∷ []))))
+  pub read-there : (a : List Message) (m : Message) (b : List Message) → readUp d ≡ taken (a ++ (m ∷ b))
+      → (messageAt d (length (writeUp a)) ≡ taken m) × (endAt d (length (writeUp a)) ≡ length (writeUp (a ++ (m ∷ []))))
   unfolding frames
   read-there a m b e =
       let w = read-is-written d bytes (a ++ (m ∷ b)) e in

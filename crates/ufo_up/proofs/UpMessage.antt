@@ -10,7 +10,7 @@ use lib.ListN.{length, drop}
 use Rattle.wire.specs.Checks.{if_then_else_, _is_, Verdict, refused, taken}
 use Rattle.blocks.specs.Blocks.{stated, endAt, blockAt}
 use Rattle.blocks.specs.declared.Block.the-variants as block
-use Rattle.blocks.proofs.Steps.{missed}
+use Rattle.blocks.proofs.NextBlock.{missed}
 use Rattle.blocks.proofs.Found.{own, Found}
 use Rattle.ufo_up.specs.Up.{Message, kind, byKind, readAlone, readMessage, messageAt, upOf}
 use Rattle.ufo_up.specs.declared.up.Up.{Up}
@@ -22,7 +22,8 @@ module _ (m : List ℕ) where
   unfolding readMessage
   of-kind n e = rw e
 
-  pub is-none : (kind m ≡ 76 → ⊥) → (kind m ≡ 84 → ⊥) → (kind m ≡ 85 → ⊥) → (kind m ≡ 82 → ⊥) → (kind m ≡ 79 → ⊥) → readMessage m ≡ refused 3
+  pub is-none : (kind m ≡ 76 → ⊥) → (kind m ≡ 84 → ⊥) → (kind m ≡ 85 → ⊥) → (kind m ≡ 82 → ⊥) → (kind m ≡ 79 → ⊥)
+      → readMessage m ≡ refused 3
   unfolding readMessage
   is-none l t u r o =
       rw (ne-eqb (kind m) 76 l, ne-eqb (kind m) 84 t, ne-eqb (kind m) 85 u, ne-eqb (kind m) 82 r, ne-eqb (kind m) 79 o)
@@ -53,8 +54,13 @@ module _ (d : List ℕ) (p : ℕ) where
     own-at : (size ≡ 0 → ⊥) → messageAt d p ≡ readMessage (own d p start size next)
     unfolding messageAt
     own-at z =
-        rw (le-leb (endAt d p) (length d) (omega (arith, f .ends, f .inside)), ne-eqb (stated (drop p d)) 0 (λ q. z (f .states ∙ q)), f .same)
+        rw (
+          le-leb (endAt d p) (length d) (omega (arith, f .ends, f .inside)),
+          ne-eqb (stated (drop p d)) 0 (λ q. z (f .states ∙ q)),
+          f .same,
+        )
 
     -- what its own reader answers is the answer
-    pub answers : (r : Up) (v : Verdict Message) → (size ≡ 0 → ⊥) → r ≡ upOf next v → readMessage (own d p start size next) ≡ v → r ≡ upOf (endAt d p) (messageAt d p)
+    pub answers : (r : Up) (v : Verdict Message) → (size ≡ 0 → ⊥) → r ≡ upOf next v → readMessage (own d p start size next) ≡ v
+        → r ≡ upOf (endAt d p) (messageAt d p)
     answers r v z a q = rw (own-at z, q, ← f .ends) a

@@ -17,7 +17,8 @@ use Rattle.blocks.proofs.Frames.{length-frame, front-stated, front-first}
 use Rattle.blocks.proofs.Places.{each-at, placed, placed-next, frames-around, not-all, all}
 use Rattle.blocks.proofs.Cutting.{Framed}
 use Rattle.blocks.proofs.Skipping.{end-framed, end-placed}
-use Rattle.ufo_up.specs.Up.{Message, login, request, unsequenced, heartbeat, logout, readMessage, readEach, messageAt, upOf, nextOf, upstreamOf}
+use Rattle.ufo_up.specs.Up.{Message, login, request, unsequenced, heartbeat, logout, readMessage, readEach, messageAt, upOf, nextOf}
+use Rattle.ufo_up.specs.Up.{upstreamOf}
 use Rattle.ufo_up.specs.declared.up.Upstream.{Upstream}
 use Rattle.ufo_up.specs.declared.up.Upstream.the-variants as packet
 
@@ -30,9 +31,16 @@ framed-at a m t h f =
     let w : drop (length a) d ≡ frame m ++ t = drop-at a (frame m ++ t) (length a) refl in
     let s : stated (drop (length a) d) ≡ length m = rw w (front-stated m t h) in
     let e = end-framed a m t h in
-    rw (le-leb (endAt d (length a)) (length d) (omega arith), ne-eqb (stated (drop (length a) d)) 0 (λ q. omega arith), w, front-first m t h)
+    rw (
+      le-leb (endAt d (length a)) (length d) (omega arith),
+      ne-eqb (stated (drop (length a) d)) 0 (λ q. omega arith),
+      w,
+      front-first m t
+          h,
+    )
 
-message-at : (bs : List (List ℕ)) (k : ℕ) → Each Short bs → Each Full bs → k < length bs → messageAt (frames bs) (placed bs k) ≡ readMessage (getD bs k [])
+message-at : (bs : List (List ℕ)) (k : ℕ) → Each Short bs → Each Full bs → k < length bs → messageAt (frames bs) (placed bs k) ≡ readMessage
+    (getD bs k [])
 message-at bs k short full h =
     rw (frames-around bs k h)
     (framed-at (frames (take k bs)) (getD bs k []) (frames (drop (k + 1) bs)) (each-at Short bs k short h) (each-at Full bs k full h))
@@ -52,7 +60,8 @@ module _ (bs : List (List ℕ)) (k : ℕ) where
   counted-all h = rw (drop-of-length-le bs h) (ap packet.Messages (add-zero k))
 
   module _ (h : k < length bs) where
-    pub counted-more : (m : Message) → readMessage (getD bs k []) ≡ taken m → counted k (readEach (drop k bs)) ≡ counted (k + 1) (readEach (drop (k + 1) bs))
+    pub counted-more : (m : Message) → readMessage (getD bs k []) ≡ taken m → counted k (readEach (drop k bs)) ≡ counted (k + 1)
+        (readEach (drop (k + 1) bs))
     unfolding readEach
     counted-more m e = rw (drop-cons bs k [] h, add-one, e) (by (readEach (drop (suc k) bs))) where
       by : (v : Verdict (List Message)) → counted k (v into (λ ms. taken (m ∷ ms))) ≡ counted (suc k) v
@@ -119,8 +128,15 @@ module _ (d : List ℕ) (at k : ℕ) (f : Framed d (messagesOf (upstream d))) (r
         let n = placed-next bs k another in
         let h = another in
         let q = r .few in
-        let a = r .place in
-        (record { some = omega arith; place = p; few = omega arith; answer = r .answer ∙ counted-more bs k another (w .message) (sym same-message ∙ w .is) }, omega arith)
+        let a = r .place in (
+          record {
+            some = omega arith;
+            place = p;
+            few = omega arith;
+            answer = r .answer ∙ counted-more bs k another (w .message) (sym same-message ∙ w .is);
+          },
+          omega arith,
+        )
 
     pub reached-stop : (n : ℕ) → nextOf (upOf (endAt d at) (messageAt d at)) ≡ place.Refused n → packet.Refused n ≡ upstreamOf (readEach bs)
     reached-stop n e =

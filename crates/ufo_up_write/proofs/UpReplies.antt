@@ -21,27 +21,33 @@ use Rattle.ufo_up.specs.Up.{Message, login, request, unsequenced, heartbeat, lo
 use Rattle.ufo.specs.Numbers.{highest, held, capped}
 use Rattle.ufo_up_write.specs.WriteUp.{cappedIn, heldIn, verdict, reply}
 use Rattle.ufo_up.proofs.UpOne.{read-one}
-use Rattle.ufo_up.proofs.UpExactOne.{full-message, length-message, leftL, leftT, checks-login, checks-request, read-unsequenced, read-message}
+use Rattle.ufo_up.proofs.UpExactOne.{full-message, length-message, leftL, leftT, checks-login, checks-request, read-unsequenced}
+use Rattle.ufo_up.proofs.UpExactOne.{read-message}
 
 -- the packet that holds one message, if the checks cs are left of it
-read-framed : (cs : List Check) (m : Message) → length (writeMessage m) ≤ 1470 → readMessage (writeMessage m) ≡ checked cs (taken m) → readUp (frame (writeMessage m)) ≡ checked cs (taken (m ∷ []))
+read-framed : (cs : List Check) (m : Message) → length (writeMessage m) ≤ 1470 → readMessage (writeMessage m) ≡ checked cs (taken m)
+    → readUp (frame (writeMessage m)) ≡ checked cs (taken (m ∷ []))
 read-framed cs m l e =
     rw (read-one (writeMessage m) (full-message m), le-leb (2 + length (writeMessage m)) limit (omega arith), e)
     (into-checked cs (taken m) (λ x. taken (x ∷ [])))
 
 -- and the reply
-replies : (cs : List Check) (m : Message) (room : ℕ) → length (writeMessage (cappedIn m)) ≤ 1470 → readMessage (writeMessage (cappedIn m)) ≡ checked cs (taken (cappedIn m)) → reply m room ≡ checked cs (checked ((heldIn m else 7) ∷ []) (within room (frame (writeMessage m))))
+replies : (cs : List Check) (m : Message) (room : ℕ) → length (writeMessage (cappedIn m)) ≤ 1470
+    → readMessage (writeMessage (cappedIn m)) ≡ checked cs (taken (cappedIn m))
+    → reply m room ≡ checked cs (checked ((heldIn m else 7) ∷ []) (within room (frame (writeMessage m))))
 unfolding reply verdict
 replies cs m room l e =
     rw (read-framed cs (cappedIn m) l e)
     (settle-further cs ((heldIn m else 7) ∷ []) (cappedIn m ∷ []) (frame (writeMessage m)) room)
 
-pub reply-login : (u w s : List ℕ) (room : ℕ) → length u ≡ 6 → length w ≡ 10 → length s ≡ 10 → reply (login u w s) room ≡ checked (leftL u w s) (within room (frame (writeMessage (login u w s))))
+pub reply-login : (u w s : List ℕ) (room : ℕ) → length u ≡ 6 → length w ≡ 10 → length s ≡ 10
+    → reply (login u w s) room ≡ checked (leftL u w s) (within room (frame (writeMessage (login u w s))))
 reply-login u w s room hu hw hs =
     let l : length (writeMessage (login u w s)) ≡ 27 = simp (length-append, hu, hw, hs) refl in
     replies (leftL u w s) (login u w s) room (omega arith) (checks-login u w s hu hw hs)
 
-pub reply-request : (n c room : ℕ) → c < 2 ^ 16 → reply (request n c) room ≡ checked (leftT n c) (checked ((held n else 7) ∷ []) (within room (frame (writeMessage (request n c)))))
+pub reply-request : (n c room : ℕ) → c < 2 ^ 16 → reply (request n c) room ≡ checked (leftT n c)
+    (checked ((held n else 7) ∷ []) (within room (frame (writeMessage (request n c)))))
 reply-request n c room h =
     let k = capped n in
     let l : length (writeMessage (request k c)) ≡ 7 = simp (length-append, length-bytesOf) refl in
@@ -53,7 +59,8 @@ reply-request n c room h =
           (λ q. let z = eqb-true n 0 q in rw q (eq-eqb (capped n) 0 (omega arith)))
           (λ q. let z = eqb-false n 0 q in rw q (ne-eqb (capped n) 0 (λ e. z (omega arith))))
 
-pub reply-unsequenced : (b : List ℕ) (room : ℕ) → reply (unsequenced b) room ≡ checked ((length b atMost 1469 else 2) ∷ []) (within room (frame (85 ∷ b)))
+pub reply-unsequenced : (b : List ℕ) (room : ℕ) → reply (unsequenced b) room ≡ checked ((length b atMost 1469 else 2) ∷ [])
+    (within room (frame (85 ∷ b)))
 unfolding reply verdict readUp
 reply-unsequenced b room =
     by-test (leb (length b) 1469)

@@ -34,7 +34,8 @@ fn put_head(out: &mut [u8], size: u16, kind: u8)
 }
 
 pub fn write_login(user: User, password: Password, session: Name, out: &mut [u8]) -> Written
-    ensures { λ r. ⌜ Settled (reply (login (userBytes user) (nameBytes (password .0)) (nameBytes session)) (length (now (out .entry)))) (now (out .entry)) r (now (out .exit)) ⌝ }
+    ensures { λ r. ⌜ Settled (reply (login (userBytes user) (nameBytes (password .0)) (nameBytes session)) (length (now (out .entry))))
+        (now (out .entry)) r (now (out .exit)) ⌝ }
 {
     if !text::is_user_then_spaces(user) {
         return Written::Refused(refusal::FORM);
@@ -81,7 +82,8 @@ pub fn write_request(first: Sequence, count: u16, out: &mut [u8]) -> Written
 }
 
 pub fn write_unsequenced(data: &[u8], out: &mut [u8]) -> Written
-    ensures { λ r. ⌜ Settled (reply (unsequenced (now («data» .entry))) (length (now (out .entry)))) (now (out .entry)) r (now (out .exit)) ⌝ }
+    ensures { λ r. ⌜ Settled (reply (unsequenced (now («data» .entry))) (length (now (out .entry)))) (now (out .entry)) r (now (out .exit))
+        ⌝ }
 {
     let size = data.len();
     if DATA < size {

@@ -22,14 +22,17 @@ use Rattle.ufo.proofs.Exact.{written-is-read}
 
 pub bytes-write : (p : Packet) → Fit p → Bytes (write p)
 bytes-write (accept session next) f =
-    bytes-cons 65 (session ++ bytesOf 4 next) (omega arith) (bytes-append session (bytesOf 4 next) (text-bytes session (f .letters)) (bytes-bytesOf 4 next))
+    bytes-cons 65 (session ++ bytesOf 4 next) (omega arith)
+    (bytes-append session (bytesOf 4 next) (text-bytes session (f .letters)) (bytes-bytesOf 4 next))
 bytes-write (reject reason) f = bytes-cons 74 (reason ∷ []) (omega arith) (bytes-cons reason [] (by f) (λ i. omega arith)) where
   by : (reason ≡ 65) ⊎ (reason ≡ 83) → reason < 256
   by (inl e) = omega arith
   by (inr e) = omega arith
 bytes-write (messages first ms) f =
     let n = bytesOf 2 (length ms) in
-    bytes-cons 83 (bytesOf 4 first ++ (n ++ frames ms)) (omega arith) (bytes-append (bytesOf 4 first) (n ++ frames ms) (bytes-bytesOf 4 first) (bytes-append n (frames ms) (bytes-bytesOf 2 (length ms)) (bytes-frames ms (f .bytes))))
+    bytes-cons 83 (bytesOf 4 first ++ (n ++ frames ms)) (omega arith)
+    (bytes-append (bytesOf 4 first) (n ++ frames ms) (bytes-bytesOf 4 first)
+    (bytes-append n (frames ms) (bytes-bytesOf 2 (length ms)) (bytes-frames ms (f .bytes))))
 bytes-write (end total) f = bytes-cons 69 (bytesOf 4 total) (omega arith) (bytes-bytesOf 4 total)
 
 -- what is replied to the fields of a packet

@@ -19,8 +19,10 @@ use Rattle.ufo_write.specs.WriteDown.{reply, acceptReply, rejectReply, m
 use Rattle.ufo.proofs.DownLaid.{ofAccept, ofReject, ofMessages, ofEnd, laid-accept, laid-reject, laid-messages, laid-end}
 
 -- the checks of a packet with a number, of which those at the highest number refuse whatever is more
-module _ (lay : ℕ → List ℕ) (cs : ℕ → List Check) (p : ℕ → Packet) (reads : (n : ℕ) → n < 2 ^ 32 → read (lay n) ≡ checked (cs n) (taken (p n))) (n room : ℕ) where
-  numbered : (highest < n → checked (cs highest) (refused 7) ≡ checked (cs n) (within room (lay n))) → reply lay n room ≡ checked (cs n) (within room (lay n))
+module _ (lay : ℕ → List ℕ) (cs : ℕ → List Check) (p : ℕ → Packet)
+    (reads : (n : ℕ) → n < 2 ^ 32 → read (lay n) ≡ checked (cs n) (taken (p n))) (n room : ℕ) where
+  numbered : (highest < n → checked (cs highest) (refused 7) ≡ checked (cs n) (within room (lay n)))
+      → reply lay n room ≡ checked (cs n) (within room (lay n))
   numbered above =
       rw (reads (capped n) (omega arith))
       (settle-further (cs (capped n)) ((held n else 7) ∷ []) (p (capped n)) (lay n) room
@@ -34,21 +36,30 @@ module _ (lay : ℕ → List ℕ) (cs : ℕ → List Check) (p : ℕ → Packet)
       let same : capped n ≡ highest = omega arith in
       rw (q, same) (above h)))
 
-pub accept-reply : (session : List ℕ) (next room : ℕ) → length session ≡ 10 → acceptReply session next room ≡ checked (ofAccept session next) (within room (write (accept session next)))
+pub accept-reply : (session : List ℕ) (next room : ℕ) → length session ≡ 10
+    → acceptReply session next room ≡ checked (ofAccept session next) (within room (write (accept session next)))
 unfolding acceptReply
 accept-reply session next room l =
-    numbered (λ n. write (accept session n)) (ofAccept session) (accept session) (λ n h. laid-accept session n l h) next room (λ h. rw (ne-eqb next 0 (λ e. omega arith), lt-leb next (2 ^ 32 - 1) h))
+    numbered (λ n. write (accept session n)) (ofAccept session) (accept session) (λ n h. laid-accept session n l h) next room
+    (λ h. rw (ne-eqb next 0 (λ e. omega arith), lt-leb next (2 ^ 32 - 1) h))
 
 pub reject-reply : (reason room : ℕ) → rejectReply reason room ≡ checked (ofReject reason) (within room (write (reject reason)))
 unfolding rejectReply
 reject-reply reason room =
     rw (laid-reject reason) (settle-checked (ofReject reason) (taken (reject reason)) (write (reject reason)) room)
 
-pub messages-reply : (first count : ℕ) (blocks : List ℕ) (room : ℕ) → count < 2 ^ 16 → messagesReply first count blocks room ≡ checked (ofMessages first count blocks) (within room (laid first count blocks))
+pub messages-reply : (first count : ℕ) (blocks : List ℕ) (room : ℕ) → count < 2 ^ 16 → messagesReply first count blocks room ≡ checked
+    (ofMessages first count blocks) (within room (laid first count blocks))
 unfolding messagesReply
 messages-reply first count blocks room k =
-    numbered (λ n. laid n count blocks) (λ n. ofMessages n count blocks) (λ n. messages n (messagesOf (cut count blocks))) (λ n h. laid-messages n count blocks h k) first room
-    (λ h. rw (ne-eqb first 0 (λ e. omega arith), lt-leb (first + count) (2 ^ 32 - 1) (omega arith), alike (leb (2 ^ 32 - 1 + count) (2 ^ 32 - 1)) (refused 7))) where
+    numbered (λ n. laid n count blocks) (λ n. ofMessages n count blocks) (λ n. messages n (messagesOf (cut count blocks)))
+    (λ n h. laid-messages n count blocks h k) first room
+    (λ h. rw (
+      ne-eqb first 0 (λ e. omega arith),
+      lt-leb (first + count) (2 ^ 32 - 1) (omega arith),
+      alike
+          (leb (2 ^ 32 - 1 + count) (2 ^ 32 - 1)) (refused 7),
+    )) where
       alike : (b : Bool) (v : Reply) → if b then v else v ≡ v
       alike true v = refl
       alike false v = refl

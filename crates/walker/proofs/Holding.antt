@@ -55,7 +55,8 @@ module _ {M : Type 1} (𝓤 : URA M) (H : Heap 𝓤) (A : Atoms 𝓤) (W : Given
   -- a walker is made of a slice
   pub made : w .place < 2 ^ 64 → ent 𝓤 (sem 𝓤 H A (Slice α w)) (sem 𝓤 H A (Held α w))
   made fits =
-      qed W (‵ (Slice α w) ∷ []) ∵ nothing ! $ owned ! usize (Is usize) (uint-makes 𝓤 H A W w64) (w .place) _ (refl, fits) $ fjoin ! $ move ! (1 ∷ 0 ∷ []) $ fjoin ! $
+      qed W (‵ (Slice α w) ∷ []) ∵ nothing ! $ owned ! usize (Is usize) (uint-makes 𝓤 H A W w64) (w .place) _ (refl, fits) $ fjoin !
+      $ move ! (1 ∷ 0 ∷ []) $ fjoin ! $
       by ! (own-shut 𝓤 H A W (T.the-type α) (T′.the-laws α) (fields α w))
 
   -- what a function of a slice and a place asks, if it has no `requires`; q is the share of the lifetime's token
@@ -68,8 +69,10 @@ module _ {M : Type 1} (𝓤 : URA M) (H : Heap 𝓤) (A : Atoms 𝓤) (W : Given
   -- a walker is Copy: it lends its fields to such a function, and keeps what it owns
   pub lent : (q : Share) → ent 𝓤 (⋆ 𝓤 H A ((‵ (flft (α .lft) q) ⊛ ‵ ftrue) ∷ ‵ (Held α w) ∷ [])) (sep 𝓤 (Asked q) (sem 𝓤 H A (Held α w)))
   lent q =
-      qed W ((‵ (flft (α .lft) q) ⊛ ‵ ftrue) ∷ ‵ (Held α w) ∷ []) ∵ move ! (1 ∷ []) $ use1 W (‵ (Held α w) ⊛ ‵ (Held α w)) (LL.copy (T.the-type α) (T′.the-copy α) 𝓤 H A W .twice w (T′.lowered w ∷ [])) $ split ! $
-      use1 W (given (T′.lowered w ∷ [] ≡ T′.lowered w ∷ []) (‵ (all-own (T.the-type α .parts) (T′.the-laws α) (fields α w)))) (own-open 𝓤 H A W (T.the-type α) (T′.the-laws α) (fields α w) (T′.lowered w)) $ learn ! (λ _.
+      qed W ((‵ (flft (α .lft) q) ⊛ ‵ ftrue) ∷ ‵ (Held α w) ∷ []) ∵ move ! (1 ∷ []) $ use1 W (‵ (Held α w) ⊛ ‵ (Held α w))
+      (LL.copy (T.the-type α) (T′.the-copy α) 𝓤 H A W .twice w (T′.lowered w ∷ [])) $ split ! $
+      use1 W (given (T′.lowered w ∷ [] ≡ T′.lowered w ∷ []) (‵ (all-own (T.the-type α .parts) (T′.the-laws α) (fields α w))))
+      (own-open 𝓤 H A W (T.the-type α) (T′.the-laws α) (fields α w) (T′.lowered w)) $ learn ! (λ _.
       -- [what the fields own; what the walker owns; the token]
       move ! (2 ∷ 0 ∷ []) $ use2 W (raw (Asked q)) (asked q) $ frame ! $ done !)
 

@@ -16,7 +16,8 @@ pub taken-same : {A : Type 0} (a b : A) → taken a ≡ taken b → a ≡ b
 taken-same a b e = cc
 
 -- a choice that equals v has come from one of its arms
-pub chosen : {A : Type 0} {C : Type 0} (b : Bool) (x y v : Verdict A) → (b ≡ true → x ≡ v → C) → (b ≡ false → y ≡ v → C) → (if b then x else y) ≡ v → C
+pub chosen : {A : Type 0} {C : Type 0} (b : Bool) (x y v : Verdict A) → (b ≡ true → x ≡ v → C) → (b ≡ false → y ≡ v → C)
+    → (if b then x else y) ≡ v → C
 chosen true x y v f g e = f refl e
 chosen false x y v f g e = g refl e
 
@@ -33,7 +34,8 @@ module _ {A : Type 0} where
   passed-all (c ∷ cs) v p = rw (p .0) (passed-all cs v (p .1))
 
   -- what is taken came by the number n, and passed its checks, or by another
-  pub came-by : {C : Type 0} (k n : ℕ) (cs : List Check) (a p : A) (w : Verdict A) → (k ≡ n → Passed cs → a ≡ p → C) → (w ≡ taken p → C) → (if k is n then checked cs (taken a) else w) ≡ taken p → C
+  pub came-by : {C : Type 0} (k n : ℕ) (cs : List Check) (a p : A) (w : Verdict A) → (k ≡ n → Passed cs → a ≡ p → C) → (w ≡ taken p → C)
+      → (if k is n then checked cs (taken a) else w) ≡ taken p → C
   came-by k n cs a p w here there =
       chosen (k is n) (checked cs (taken a)) w (taken p)
       (λ q e. let c = all-passed cs (taken a) p e in here (eqb-true k n q) (c .0) (taken-same a p (c .1)))
@@ -49,7 +51,8 @@ module _ {A : Type 0} where
 
 module _ {A B : Type 0} where
   -- what lets refusals stand goes through a list of checks
-  pub through : (g : Verdict A → Verdict B) → ((n : ℕ) → g (refused n) ≡ refused n) → (cs : List Check) (v : Verdict A) → g (checked cs v) ≡ checked cs (g v)
+  pub through : (g : Verdict A → Verdict B) → ((n : ℕ) → g (refused n) ≡ refused n) → (cs : List Check) (v : Verdict A)
+      → g (checked cs v) ≡ checked cs (g v)
   through g stands [] v = refl
   through g stands (c ∷ cs) v =
       by-test (c .test)

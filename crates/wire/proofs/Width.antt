@@ -130,13 +130,15 @@ pub sets-after : {A : Type 0} (d : List A) (at n : ℕ) (a b : List A) → lengt
 sets-after d at n a b e = rw (← e) (sets-append d at a b)
 
 -- two fields put side by side are one
-pub put-add : (j k : ℕ) (d : List ℕ) (at n : ℕ) → n < 2 ^ (8 * (j + k)) → sets (sets d at (bytesOf j (n / 2 ^ (8 * k)))) (at + j) (bytesOf k (n % 2 ^ (8 * k))) ≡ sets d at (bytesOf (j + k) n)
+pub put-add : (j k : ℕ) (d : List ℕ) (at n : ℕ) → n < 2 ^ (8 * (j + k)) → sets (sets d at (bytesOf j (n / 2 ^ (8 * k)))) (at + j)
+    (bytesOf k (n % 2 ^ (8 * k))) ≡ sets d at (bytesOf (j + k) n)
 put-add j k d at n h =
     let m = n / 2 ^ (8 * k) in
     rw bytesOf-add (sets-after d at j (bytesOf j m) (bytesOf k (n % 2 ^ (8 * k))) (length-bytesOf j m))
 
 -- and so where each is stored by a call of its own
-pub puts : (j k : ℕ) (d mid left : List ℕ) (at n : ℕ) → n < 2 ^ (8 * (j + k)) → mid ≡ sets d at (bytesOf j (n / 2 ^ (8 * k))) → left ≡ sets mid (at + j) (bytesOf k (n % 2 ^ (8 * k))) → left ≡ sets d at (bytesOf (j + k) n)
+pub puts : (j k : ℕ) (d mid left : List ℕ) (at n : ℕ) → n < 2 ^ (8 * (j + k)) → mid ≡ sets d at (bytesOf j (n / 2 ^ (8 * k)))
+    → left ≡ sets mid (at + j) (bytesOf k (n % 2 ^ (8 * k))) → left ≡ sets d at (bytesOf (j + k) n)
 puts j k d mid left at n h e f = f ∙ ap (λ (x : List ℕ). sets x (at + j) (bytesOf k (n % 2 ^ (8 * k)))) e ∙ put-add j k d at n h
 
 -- two bytes at a place

@@ -24,10 +24,15 @@ by-said r (refused n) = refl
 by-said r (taken true) = refl
 by-said r (taken false) = refl
 
-goes-on : (c : tie.After-wait-over) → let a = c .before .before .before .args in askedOf (asking (a .kept) (a .sheet) (a .rule) (a .elapsed)) ≡ told (a .kept) (c .wait-over .result)
+goes-on : (c : tie.After-wait-over) → let a = c .before .before .before .args in
+    askedOf (asking (a .kept) (a .sheet) (a .rule) (a .elapsed)) ≡ told (a .kept) (c .wait-over .result)
 unfolding asking
 goes-on c =
-    rw (held (c .before .before .hangs-together .ensures) (c .before .if1 .left), by-said (c .before .before .before .args .kept), ← c .wait-over .ensures)
+    rw (
+      held (c .before .before .hangs-together .ensures) (c .before .if1 .left),
+      by-said (c .before .before .before .args .kept),
+      ← c .wait-over .ensures,
+    )
 
 hangs-together-requires : tie.Need-hangs-together-requires
 hangs-together-requires c κs = search needs

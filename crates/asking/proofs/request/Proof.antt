@@ -22,7 +22,8 @@ at-requires c κs = search needs
 sub-others : tie.Need-sub-others
 sub-others c =
     let k = c .before .before .before .before .before .before .before .args .kept in
-    in-order (k .held) (k .next .0) (k .top .0) (c .before .before .before .before .at .result) (c .before .before .before .before .at .ensures) (c .before .before .before .before .before .before .before .pre)
+    in-order (k .held) (k .next .0) (k .top .0) (c .before .before .before .before .at .result)
+    (c .before .before .before .before .at .ensures) (c .before .before .before .before .before .before .before .pre)
 
 cast-if1 : tie.Need-cast-if1
 cast-if1 c = search needs

@@ -21,7 +21,11 @@ request-requires-2 c κs = search needs
 
 returns-3 : tie.Need-returns-3
 unfolding wish
-returns-3 c = rw (le-leb _ _ (c .before .before .before .before .before .if1 .left), eq-eqb _ _ (c .before .before .if2 .left), c .before .if3 .taken) (c .request2 .ensures)
+returns-3 c = rw (
+  le-leb _ _ (c .before .before .before .before .before .if1 .left),
+  eq-eqb _ _ (c .before .before .if2 .left),
+  c .before .if3 .taken,
+) (c .request2 .ensures)
 
 returns-4 : tie.Need-returns-4
 unfolding wish

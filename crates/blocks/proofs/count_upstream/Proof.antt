@@ -4,7 +4,8 @@ use denote.Ref.{now}
 use native.Mathlib.Omega.{arith}
 use borrow.Author.Needs.{needs}
 use lib.ListN.{length}
-use Rattle.blocks.proofs.Steps.{Stands, found, missed, tally, upFrom, tally-step, tally-torn, tally-empty, tally-end, count-some, count-none}
+use Rattle.blocks.proofs.NextBlock.{Stands, found, missed, tally, upFrom, tally-step, tally-torn, tally-empty, tally-end, count-some}
+use Rattle.blocks.proofs.NextBlock.{count-none}
 use Rattle.blocks.proofs.count_upstream.Statement.{statement}
 use Rattle.blocks.proofs.count_upstream.Tie as tie
 
@@ -18,10 +19,14 @@ abbrev μ-loop : tie.MeasureT-loop
 μ-loop s at₀ count₀ at count = length s - at
 
 -- the block that a turn found
-step : (c : tie.Else1 Inv-loop μ-loop) → let s = now (c .before .before .before .before .before .before .before .before .args .s) in let p = c .before .before .before .before .before .before .loop .at in let g = c .before .before .length .given .0 in Stands s p (g .1 .0) (g .1 .1 .0)
+step : (c : tie.Else1 Inv-loop μ-loop) → let s = now (c .before .before .before .before .before .before .before .before .args .s) in
+    let p = c .before .before .before .before .before .before .loop .at in let g = c .before .before .length .given .0 in
+    Stands s p (g .1 .0) (g .1 .1 .0)
 step c =
     let g = c .before .before .length .given in
-    found (now (c .before .before .before .before .before .before .before .before .args .s)) (c .before .before .before .before .before .before .loop .at) (g .0 .0) (g .0 .1 .0) (g .0 .1 .1 .0) (sym (c .before .before .before .before .next .ensures) ∙ g .1)
+    found (now (c .before .before .before .before .before .before .before .before .args .s))
+    (c .before .before .before .before .before .before .loop .at) (g .0 .0) (g .0 .1 .0) (g .0 .1 .1 .0)
+    (sym (c .before .before .before .before .next .ensures) ∙ g .1)
 
 loop-holds : tie.Need-loop-holds Inv-loop μ-loop
 loop-holds c = (omega arith, omega arith, (λ _. refl), refl)

@@ -19,13 +19,15 @@ enum-told c = search needs
 returns : tie.Need-returns
 returns c =
     let a = c .before .before .before .before .before .args in
-    let e = reached (placeAfter (a .count) (now (a .s)) (a .place)) (c .before .at .given .0 .0) (sym (c .before .before .before .skip .ensures) ∙ c .before .at .given .1) in
+    let e = reached (placeAfter (a .count) (now (a .s)) (a .place)) (c .before .at .given .0 .0)
+    (sym (c .before .before .before .skip .ensures) ∙ c .before .at .given .1) in
     rw (fills-by-place (a .count) (now (a .s)) (a .place), e)
 
 returns-2 : tie.Need-returns-2
 returns-2 c =
     let a = c .before .before .before .before .args in
-    let e = not-reached (placeAfter (a .count) (now (a .s)) (a .place)) (c .enum-told .given .0 .0) (sym (c .before .before .skip .ensures) ∙ c .enum-told .given .1) in
+    let e = not-reached (placeAfter (a .count) (now (a .s)) (a .place)) (c .enum-told .given .0 .0)
+    (sym (c .before .before .skip .ensures) ∙ c .enum-told .given .1) in
     rw (fills-by-place (a .count) (now (a .s)) (a .place), e)
 
 pub exactly-spec : {M : Type 1} → statement M

@@ -1,7 +1,7 @@
 use denote.Ref.{now}
 use mathlib.Core.Path.{sym}
 use native.Mathlib.Omega.{arith}
-use Rattle.blocks.proofs.Steps.{block-over, block-fits}
+use Rattle.blocks.proofs.NextBlock.{block-over, block-fits}
 use borrow.Author.Needs.{needs}
 use Rattle.blocks.proofs.next.Statement.{statement}
 use Rattle.blocks.proofs.next.Tie as tie

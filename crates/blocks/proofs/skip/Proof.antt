@@ -4,7 +4,7 @@ use denote.Ref.{now}
 use native.Mathlib.Omega.{arith}
 use borrow.Author.Needs.{needs}
 use Rattle.blocks.specs.Blocks.{placeAfter}
-use Rattle.blocks.proofs.Steps.{found, missed, place-step, place-torn, place-here, place-past}
+use Rattle.blocks.proofs.NextBlock.{found, missed, place-step, place-torn, place-here, place-past}
 use Rattle.blocks.proofs.skip.Statement.{statement}
 use Rattle.blocks.proofs.skip.Tie as tie
 
@@ -41,7 +41,8 @@ loop-again c =
     let s = now (c .before .before .before .before .before .before .before .args .s) in
     let g = c .before .next2 .given in
     let f = found s (l .at) (g .0 .0) (g .0 .1 .0) (g .0 .1 .1 .0) (sym (c .before .before .before .next .ensures) ∙ g .1) in
-    let e = l .inv ∙ ap (λ (k : ℕ). placeAfter k s (l .at)) (some (l .left) (c .before .before .before .before .loop-test .taken)) ∙ place-step s (l .at) (l .left - 1) (f .2) in
+    let e = l .inv ∙ ap (λ (k : ℕ). placeAfter k s (l .at)) (some (l .left) (c .before .before .before .before .loop-test .taken))
+    ∙ place-step s (l .at) (l .left - 1) (f .2) in
     e ∙ ap (λ (t : ℕ). placeAfter (l .left - 1) s t) (sym (f .0))
 
 enum-known-n : tie.Need-enum-known-n Inv-loop μ-loop
@@ -53,7 +54,8 @@ returns c =
     let s = now (c .before .before .before .before .before .before .before .args .s) in
     let g = c .before .n .given in
     let f = missed s (l .at) (g .0 .0) (sym (c .before .before .before .next .ensures) ∙ g .1) in
-    let e = l .inv ∙ ap (λ (k : ℕ). placeAfter k s (l .at)) (some (l .left) (c .before .before .before .before .loop-test .taken)) ∙ place-torn s (l .at) (l .left - 1) (f .1) in
+    let e = l .inv ∙ ap (λ (k : ℕ). placeAfter k s (l .at)) (some (l .left) (c .before .before .before .before .loop-test .taken))
+    ∙ place-torn s (l .at) (l .left - 1) (f .1) in
     rw (e, f .0)
 
 returns-2 : tie.Need-returns-2 Inv-loop μ-loop

@@ -32,7 +32,8 @@ returns-2 c =
 four : (b : tie.Else2) → blank (take 4 (b .before .before .before .before .args .s .now)) ≡ true
 four b = held (b .before .four-spaces .ensures) (b .if2 .left)
 
-twelve : (b : tie.Else2) → blank (take 12 (b .before .before .before .before .args .s .now)) ≡ blank (take 8 (drop 4 (b .before .before .before .before .args .s .now)))
+twelve : (b : tie.Else2) → blank (take 12 (b .before .before .before .before .args .s .now)) ≡ blank
+    (take 8 (drop 4 (b .before .before .before .before .args .s .now)))
 twelve b = sym (overlap (b .before .before .before .before .args .s .now) 4 8 12 4 refl (omega arith) (four b))
 
 four-spaces-requires-2 : tie.Need-four-spaces-requires-2

@@ -67,7 +67,8 @@ returns-5 c =
     let b = c .before .before in
     let t = b .before .before .before .before .before .before .before in
     let e = t .tail-of .ensures in
-    ap Is (e .2) ∙ sym (number _ _ (t .before .if1 .left) (e .0) (e .1) (held (b .before .are-spaces .ensures) (b .if3 .left)) (pos-of-ne-zero (c .if4 .left)))
+    ap Is (e .2) ∙ sym (number _ _ (t .before .if1 .left) (e .0) (e .1) (held (b .before .are-spaces .ensures) (b .if3 .left))
+    (pos-of-ne-zero (c .if4 .left)))
 
 pub read-spec : {M : Type 1} → statement M
 read-spec =

@@ -18,12 +18,15 @@ abbrev μ-loop : tie.MeasureT-loop
 μ-loop s powers value₀ k₀ value k = 19 - k
 
 -- a turn, with the power that the table has at the digit's place
-this-turn : (c : tie.Else1 Inv-loop μ-loop) → Turn (c .before .before .before .before .before .before .args .s .now) (c .before .before .before .before .loop .k) (c .before .figure .result) (c .before .before .before .before .loop .value) (getD (powers 20 0) (c .before .before .before .before .loop .k) 0)
+this-turn : (c : tie.Else1 Inv-loop μ-loop) → Turn (c .before .before .before .before .before .before .args .s .now)
+    (c .before .before .before .before .loop .k) (c .before .figure .result) (c .before .before .before .before .loop .value)
+    (getD (powers 20 0) (c .before .before .before .before .loop .k) 0)
 this-turn c =
     let b = c .before .before .before in
     let i = b .before .loop .inv in
     let f = c .before .figure .ensures in
-    turn _ _ _ _ _ (b .before .before .before .pre) (b .loop-test .taken) (i .1) (i .2) (f .0) (f .1) (c .if1 .left) (power-at 20 _ (omega arith))
+    turn _ _ _ _ _ (b .before .before .before .pre) (b .loop-test .taken) (i .1) (i .2) (f .0) (f .1) (c .if1 .left)
+    (power-at 20 _ (omega arith))
 
 loop-holds : tie.Need-loop-holds Inv-loop μ-loop
 loop-holds c = let e = none-yet (c .before .args .s .now) (c .before .pre) in (omega arith, e .0, e .1)

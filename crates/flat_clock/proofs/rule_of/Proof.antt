@@ -14,7 +14,12 @@ returns-3 c = rw (c .match .keys3)
 
 returns-4 : tie.Need-returns-4
 unfolding ofBits round
-returns-4 c = rw (ne-eqb (c .before .args .given .rule) 0 (c .match .rest .0 .0 .1), ne-eqb (c .before .args .given .rule) 1 (c .match .rest .0 .1), ne-eqb (c .before .args .given .rule) 2 (c .match .rest .1))
+returns-4 c = rw (
+  ne-eqb (c .before .args .given .rule) 0 (c .match .rest .0 .0 .1),
+  ne-eqb (c .before .args .given .rule) 1
+      (c .match .rest .0 .1),
+  ne-eqb (c .before .args .given .rule) 2 (c .match .rest .1),
+)
 
 pub rule-of-spec : {M : Type 1} → statement M
 rule-of-spec = tie.close (tie.spec returns returns-2 returns-3 returns-4)

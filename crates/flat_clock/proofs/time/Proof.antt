@@ -18,7 +18,13 @@ flat-timed-requires-2 : tie.Need-flat-timed-requires-2
 flat-timed-requires-2 c κs = search needs
 
 returns : tie.Need-returns
-returns c = rw (← c .before .before .before .before .is-flag .ensures, c .before .before .before .if1 .taken, c .flat-timed .ensures, c .before .time .ensures, c .before .before .sheet-of .ensures)
+returns c = rw (
+  ← c .before .before .before .before .is-flag .ensures,
+  c .before .before .before .if1 .taken,
+  c .flat-timed .ensures,
+  c .before .time .ensures,
+  c .before .before .sheet-of .ensures,
+)
 
 returns-2 : tie.Need-returns-2
 returns-2 c = rw (← c .before .before .is-flag .ensures, c .before .if1 .left, c .flat-timed2 .ensures)

@@ -21,7 +21,14 @@ flat-wait-requires-2 : tie.Need-flat-wait-requires-2
 flat-wait-requires-2 c κs = search needs
 
 returns : tie.Need-returns
-returns c = rw (← c .before .before .before .before .before .is-flag .ensures, c .before .before .before .before .if1 .taken, c .flat-wait .ensures, c .before .wait-of .ensures, c .before .before .rule-of .ensures, c .before .before .before .sheet-of .ensures)
+returns c = rw (
+  ← c .before .before .before .before .before .is-flag .ensures,
+  c .before .before .before .before .if1 .taken,
+  c .flat-wait .ensures,
+  c .before .wait-of .ensures,
+  c .before .before .rule-of .ensures,
+  c .before .before .before .sheet-of .ensures,
+)
 
 returns-2 : tie.Need-returns-2
 returns-2 c = rw (← c .before .before .is-flag .ensures, c .before .if1 .left, c .flat-wait2 .ensures)

@@ -33,7 +33,8 @@ returns : tie.Need-returns
 unfolding addFlat
 returns c =
     let a = c .before .before .before .before .before .before .before .before .args in
-    rw (c .before .before .before .before .before .match .keys1, ← c .before .before .before .before .login-of .ensures (now (a .body))) (c .before .before .alone .ensures)
+    rw (c .before .before .before .before .before .match .keys1, ← c .before .before .before .before .login-of .ensures (now (a .body)))
+    (c .before .before .alone .ensures)
 
 same-length-2 : tie.Need-same-length-2
 same-length-2 c = search needs
@@ -72,7 +73,8 @@ returns-6 c =
     let a = c .before .before .before .before .before .before .before .args in
     let k = a .fields .kind in
     let m = c .before .before .before .before .match .rest in
-    rw (ne-eqb k 76 (m .0 .0 .0 .0 .1), ne-eqb k 84 (m .0 .0 .0 .1), ne-eqb k 85 (m .0 .0 .1), ne-eqb k 82 (m .0 .1), ne-eqb k 79 (m .1)) (c .before .before .unfit-behind .ensures)
+    rw (ne-eqb k 76 (m .0 .0 .0 .0 .1), ne-eqb k 84 (m .0 .0 .0 .1), ne-eqb k 85 (m .0 .0 .1), ne-eqb k 82 (m .0 .1), ne-eqb k 79 (m .1))
+    (c .before .before .unfit-behind .ensures)
 
 pub added-spec : {M : Type 1} → statement M
 added-spec =

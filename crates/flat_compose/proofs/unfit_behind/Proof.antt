@@ -44,7 +44,8 @@ returns-2 : tie.Need-returns-2
 returns-2 c =
     let a = c .before .before .before .before .before .before .before .before .args in
     let g = c .before .n .given in
-    as-so-far (now (a .out)) (a .used) _ _ (omega arith) (g .0 .0) (was-refused (soFar (take (a .used) (now (a .out)))) (g .0 .0) (sym (c .before .before .before .read-so-far .ensures) ∙ g .1))
+    as-so-far (now (a .out)) (a .used) _ _ (omega arith) (g .0 .0)
+    (was-refused (soFar (take (a .used) (now (a .out)))) (g .0 .0) (sym (c .before .before .before .read-so-far .ensures) ∙ g .1))
 
 same-length-2 : tie.Need-same-length-2
 same-length-2 c = search needs
@@ -53,8 +54,10 @@ returns-3 : tie.Need-returns-3
 returns-3 c =
     let a = c .before .before .before .before .before .before .before .before .args in
     let g = c .before .enum-told .given in
-    let so-far = was-taken (soFar (take (a .used) (now (a .out)))) (g .0 .0) (sym (c .before .before .before .read-so-far .ensures) ∙ g .1) in
-    and-then-unfit (now (a .out)) (a .used) (a .size + length (now (a .body))) _ (omega arith) so-far _ (rw (← add-assoc (a .used) (a .size) (length (now (a .body)))) (c .unfit .ensures))
+    let so-far = was-taken (soFar (take (a .used) (now (a .out)))) (g .0 .0) (sym (c .before .before .before .read-so-far .ensures) ∙ g .1)
+    in
+    and-then-unfit (now (a .out)) (a .used) (a .size + length (now (a .body))) _ (omega arith) so-far _
+    (rw (← add-assoc (a .used) (a .size) (length (now (a .body)))) (c .unfit .ensures))
 
 pub unfit-behind-spec : {M : Type 1} → statement M
 unfit-behind-spec =

@@ -23,7 +23,12 @@ same-length : tie.Need-same-length
 same-length c = search needs
 
 returns : tie.Need-returns
-returns c = rw (← c .before .before .before .before .before .before .before .is-flag .ensures, c .before .before .before .before .before .before .if1 .taken, ← c .before .before .before .before .before .log-of .ensures) (flattens (c .before .before .before .answer .ensures) (c .wrote-of .ensures))
+returns c = rw (
+  ← c .before .before .before .before .before .before .before .is-flag .ensures,
+  c .before .before .before .before .before .before .if1 .taken,
+  ← c .before .before .before .before .before .log-of .ensures,
+)
+    (flattens (c .before .before .before .answer .ensures) (c .wrote-of .ensures))
 
 returns-2 : tie.Need-returns-2
 returns-2 c = rw (← c .before .before .is-flag .ensures, c .before .if1 .left) (record { answer = c .wrote-of2 .ensures; bytes = refl })

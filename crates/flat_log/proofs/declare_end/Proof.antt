@@ -18,7 +18,13 @@ flat-logged-requires-2 : tie.Need-flat-logged-requires-2
 flat-logged-requires-2 c κs = search needs
 
 returns : tie.Need-returns
-returns c = rw (← c .before .before .before .before .is-flag .ensures, c .before .before .before .if1 .taken, c .flat-logged .ensures, c .before .declare-end .ensures, c .before .before .log-of .ensures)
+returns c = rw (
+  ← c .before .before .before .before .is-flag .ensures,
+  c .before .before .before .if1 .taken,
+  c .flat-logged .ensures,
+  c .before .declare-end .ensures,
+  c .before .before .log-of .ensures,
+)
 
 returns-2 : tie.Need-returns-2
 returns-2 c = rw (← c .before .before .is-flag .ensures, c .before .if1 .left, c .flat-logged2 .ensures)

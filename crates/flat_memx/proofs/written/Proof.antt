@@ -34,7 +34,8 @@ returns-2 c =
     let a = c .before .before .before .before .before .before .args in
     let extra = now (a .extra) in
     let body = now (a .body) in
-    unfits _ _ limit (18 + length extra + length body) 3 _ (unknown-type (a .fields) extra body _ (c .before .if2 .taken)) (c .unfit .ensures)
+    unfits _ _ limit (18 + length extra + length body) 3 _ (unknown-type (a .fields) extra body _ (c .before .if2 .taken))
+    (c .unfit .ensures)
 
 bodiless-requires : tie.Need-bodiless-requires
 bodiless-requires c κs = search needs
@@ -48,7 +49,9 @@ returns-3 c =
     let extra = now (a .extra) in
     let body = now (a .body) in
     let kind : a .fields .kind ≤ 1 = omega arith in
-    unfits _ _ limit (18 + length extra + length body) (c .before .bodiless .result) _ (rw (c .before .bodiless .ensures) (news-with-body (a .fields) extra body _ (omega arith) (omega arith) kind (omega arith))) (c .unfit2 .ensures)
+    unfits _ _ limit (18 + length extra + length body) (c .before .bodiless .result) _
+    (rw (c .before .bodiless .ensures) (news-with-body (a .fields) extra body _ (omega arith) (omega arith) kind (omega arith)))
+    (c .unfit2 .ensures)
 
 write-heartbeat-requires : tie.Need-write-heartbeat-requires
 write-heartbeat-requires c κs = search needs

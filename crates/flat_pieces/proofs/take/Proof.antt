@@ -31,7 +31,8 @@ up-to-requires-2 : tie.Need-up-to-requires-2
 up-to-requires-2 c κs = search needs
 
 -- of the packet that is handed out
-is-handed : (c : tie.After-known-told3) → Handed (c .before .packet .given .0 .0) (c .before .packet .given .0 .1 .1 .0) (c .before .before .before .before .before .verdict .last .1 .0)
+is-handed : (c : tie.After-known-told3) → Handed (c .before .packet .given .0 .0) (c .before .packet .given .0 .1 .1 .0)
+    (c .before .before .before .before .before .verdict .last .1 .0)
 is-handed c =
     let a = c .before .before .before .before .before .before .before .before .before .before .args in
     handed (a .given) (a .place) (c .before .before .before .before .before .verdict .ensures) (c .before .packet .given .1)
@@ -43,7 +44,13 @@ slice-aggregate-with-fields : tie.Need-slice-aggregate-with-fields
 slice-aggregate-with-fields c = sym (length-take-le _ _ (is-handed (c .before .before) .fits))
 
 with-fields-requires : tie.Need-with-fields-requires
-with-fields-requires c κs = (rw (c .before .up-to2 .ensures, c .before .before .before .before .before .before .before .before .before .none-ended .ensures), is-handed (c .before .before) .says)
+with-fields-requires c κs = (
+  rw (
+    c .before .up-to2 .ensures,
+    c .before .before .before .before .before .before .before .before .before .none-ended .ensures,
+  ),
+  is-handed (c .before .before) .says,
+)
 
 enum-known-why : tie.Need-enum-known-why
 enum-known-why c = search needs
@@ -58,25 +65,42 @@ same-length : tie.Need-same-length
 same-length c = search needs
 
 returns : tie.Need-returns
-returns c = flattens (c .before .before .before .before .before .verdict .ensures) (rw (c .before .number .given .1, c .before .before .before .before .before .before .before .none-ended .ensures))
+returns c = flattens (c .before .before .before .before .before .verdict .ensures)
+    (rw (c .before .number .given .1, c .before .before .before .before .before .before .before .none-ended .ensures))
 
 same-length-2 : tie.Need-same-length-2
 same-length-2 c = search needs
 
 returns-2 : tie.Need-returns-2
-returns-2 c = flattens (c .before .before .before .before .before .before .verdict .ensures) (rw (c .before .before .after .given .1, c .up-to .ensures, c .before .before .before .before .before .before .before .before .none-ended .ensures))
+returns-2 c = flattens (c .before .before .before .before .before .before .verdict .ensures)
+    (rw (
+      c .before .before .after .given .1,
+      c .up-to .ensures,
+      c .before .before .before .before .before .before .before .before .none-ended .ensures,
+    ))
 
 same-length-3 : tie.Need-same-length-3
 same-length-3 c = search needs
 
 returns-3 : tie.Need-returns-3
-returns-3 c = flattens (c .before .before .before .before .before .before .before .before .verdict .ensures) (rw (c .before .before .before .before .packet .given .1, c .with-fields .ensures, c .before .before .up-to2 .ensures, c .before .before .before .before .before .before .before .before .before .before .none-ended .ensures))
+returns-3 c = flattens (c .before .before .before .before .before .before .before .before .verdict .ensures)
+    (rw (
+      c .before .before .before .before .packet .given .1,
+      c .with-fields .ensures,
+      c .before .before .up-to2 .ensures,
+      c .before .before .before .before .before .before .before .before .before .before .none-ended .ensures,
+    ))
 
 same-length-4 : tie.Need-same-length-4
 same-length-4 c = search needs
 
 returns-4 : tie.Need-returns-4
-returns-4 c = flattens (c .before .before .before .before .before .before .verdict .ensures) (rw (c .before .before .why .given .1, c .up-to3 .ensures, c .before .before .before .before .before .before .before .before .none-ended .ensures))
+returns-4 c = flattens (c .before .before .before .before .before .before .verdict .ensures)
+    (rw (
+      c .before .before .why .given .1,
+      c .up-to3 .ensures,
+      c .before .before .before .before .before .before .before .before .none-ended .ensures,
+    ))
 
 pub take-spec : {M : Type 1} → statement M
 take-spec =

@@ -30,7 +30,11 @@ enum-known-said-2 c = search needs
 ten-requires : tie.Need-ten-requires
 ten-requires c κs =
     let a = c .before .before .before .before .before .before in
-    omega (arith, (texts (now (a .args .bytes)) (a .args .said) _ (a .pre) (λ i. c .before .before .before .shared-slice-known2 .given i .fits) (c .before .said2 .given .1)) .0)
+    omega (
+      arith,
+      (texts (now (a .args .bytes)) (a .args .said) _ (a .pre)
+          (λ i. c .before .before .before .shared-slice-known2 .given i .fits) (c .before .said2 .given .1)) .0,
+    )
 
 named-requires : tie.Need-named-requires
 named-requires c κs = search needs
@@ -47,17 +51,30 @@ enum-known-said-4 c = search needs
 six-requires : tie.Need-six-requires
 six-requires c κs =
     let a = c .before .before .before .before .before .before in
-    omega (arith, (texts (now (a .args .bytes)) (a .args .said) _ (a .pre) (λ i. c .before .before .before .shared-slice-known2 .given i .fits) (c .before .said4 .given .1)) .0)
+    omega (
+      arith,
+      (texts (now (a .args .bytes)) (a .args .said) _ (a .pre)
+          (λ i. c .before .before .before .shared-slice-known2 .given i .fits) (c .before .said4 .given .1)) .0,
+    )
 
 ten-requires-2 : tie.Need-ten-requires-2
 ten-requires-2 c κs =
     let a = c .before .before .before .before .before .before .before in
-    omega (arith, (texts (now (a .args .bytes)) (a .args .said) _ (a .pre) (λ i. c .before .before .before .before .shared-slice-known2 .given i .fits) (c .before .before .said4 .given .1)) .0)
+    omega (
+      arith,
+      (texts (now (a .args .bytes)) (a .args .said) _ (a .pre)
+          (λ i. c .before .before .before .before .shared-slice-known2 .given i .fits) (c .before .before .said4 .given .1)) .0,
+    )
 
 ten-requires-3 : tie.Need-ten-requires-3
 ten-requires-3 c κs =
     let a = c .before .before .before .before .before .before .before .before in
-    omega (arith, (texts (now (a .args .bytes)) (a .args .said) _ (a .pre) (λ i. c .before .before .before .before .before .shared-slice-known2 .given i .fits) (c .before .before .before .said4 .given .1)) .0)
+    omega (
+      arith,
+      (texts (now (a .args .bytes)) (a .args .said) _ (a .pre)
+          (λ i. c .before .before .before .before .before .shared-slice-known2 .given i .fits)
+          (c .before .before .before .said4 .given .1)) .0,
+    )
 
 logged-in-requires : tie.Need-logged-in-requires
 logged-in-requires c κs = search needs
@@ -91,8 +108,10 @@ returns-2 c =
 returns-3 : tie.Need-returns-3
 returns-3 c =
     let a = c .before .before .before .before .before .before .before .before in
-    let t = texts (now (a .args .bytes)) (a .args .said) _ (a .pre) (λ i. c .before .before .before .before .before .shared-slice-known2 .given i .fits) (c .before .before .before .said2 .given .1) in
-    by-case (now (a .args .bytes)) (a .args .said) (a .pre) _ _ (c .before .before .before .said2 .given .1) (rw (c .before .ten .ensures, ← t .1) at (c .named .ensures))
+    let t = texts (now (a .args .bytes)) (a .args .said) _ (a .pre)
+    (λ i. c .before .before .before .before .before .shared-slice-known2 .given i .fits) (c .before .before .before .said2 .given .1) in
+    by-case (now (a .args .bytes)) (a .args .said) (a .pre) _ _ (c .before .before .before .said2 .given .1)
+    (rw (c .before .ten .ensures, ← t .1) at (c .named .ensures))
 
 returns-4 : tie.Need-returns-4
 returns-4 c =
@@ -102,28 +121,42 @@ returns-4 c =
 returns-5 : tie.Need-returns-5
 returns-5 c =
     let a = c .before .before .before .before .before .before .before .before .before .before in
-    let t = texts (now (a .args .bytes)) (a .args .said) _ (a .pre) (λ i. c .before .before .before .before .before .before .before .shared-slice-known2 .given i .fits) (c .before .before .before .before .before .said4 .given .1) in
-    by-case (now (a .args .bytes)) (a .args .said) (a .pre) _ _ (c .before .before .before .before .before .said4 .given .1) (rw (c .before .before .before .six .ensures, c .before .before .ten2 .ensures, c .before .ten3 .ensures, ← t .1, ← t .2, ← t .3) at (c .logged-in .ensures))
+    let t = texts (now (a .args .bytes)) (a .args .said) _ (a .pre)
+    (λ i. c .before .before .before .before .before .before .before .shared-slice-known2 .given i .fits)
+    (c .before .before .before .before .before .said4 .given .1) in
+    by-case (now (a .args .bytes)) (a .args .said) (a .pre) _ _ (c .before .before .before .before .before .said4 .given .1)
+    (rw (
+      c .before .before .before .six .ensures,
+      c .before .before .ten2 .ensures,
+      c .before .ten3 .ensures,
+      ← t .1,
+      ← t .2,
+      ← t .3,
+    ) at (c .logged-in .ensures))
 
 returns-6 : tie.Need-returns-6
 returns-6 c =
     let a = c .before .before .before .before .before .before .before in
-    by-type (now (a .args .bytes)) (a .args .said) (a .pre) (λ i. c .before .before .before .before .shared-slice-known2 .given i .fits) _ 43 _ _ _ (c .before .before .said5 .given .1) refl (c .payload .ensures)
+    by-type (now (a .args .bytes)) (a .args .said) (a .pre) (λ i. c .before .before .before .before .shared-slice-known2 .given i .fits) _
+    43 _ _ _ (c .before .before .said5 .given .1) refl (c .payload .ensures)
 
 returns-7 : tie.Need-returns-7
 returns-7 c =
     let a = c .before .before .before .before .before .before .before in
-    by-type (now (a .args .bytes)) (a .args .said) (a .pre) (λ i. c .before .before .before .before .shared-slice-known2 .given i .fits) _ 83 _ _ _ (c .before .before .said6 .given .1) refl (c .payload2 .ensures)
+    by-type (now (a .args .bytes)) (a .args .said) (a .pre) (λ i. c .before .before .before .before .shared-slice-known2 .given i .fits) _
+    83 _ _ _ (c .before .before .said6 .given .1) refl (c .payload2 .ensures)
 
 returns-8 : tie.Need-returns-8
 returns-8 c =
     let a = c .before .before .before .before .before .before .before in
-    by-type (now (a .args .bytes)) (a .args .said) (a .pre) (λ i. c .before .before .before .before .shared-slice-known2 .given i .fits) _ 85 _ _ _ (c .before .before .said7 .given .1) refl (c .payload3 .ensures)
+    by-type (now (a .args .bytes)) (a .args .said) (a .pre) (λ i. c .before .before .before .before .shared-slice-known2 .given i .fits) _
+    85 _ _ _ (c .before .before .said7 .given .1) refl (c .payload3 .ensures)
 
 returns-9 : tie.Need-returns-9
 returns-9 c =
     let a = c .before .before .before .before .before in
-    by-type-alone (now (a .args .bytes)) (a .args .said) (a .pre) (λ i. c .before .before .shared-slice-known2 .given i .fits) _ (c .before .match .keys8) (c .bare .ensures)
+    by-type-alone (now (a .args .bytes)) (a .args .said) (a .pre) (λ i. c .before .before .shared-slice-known2 .given i .fits) _
+    (c .before .match .keys8) (c .bare .ensures)
 
 pub told-spec : {M : Type 1} → statement M
 told-spec =

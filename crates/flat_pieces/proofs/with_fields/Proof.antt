@@ -9,7 +9,11 @@ told-requires : tie.Need-told-requires
 told-requires c κs = c .before .before .pre .1
 
 returns : tie.Need-returns
-returns c = rw (c .before .before .before .before .before .before .before .pre .0, ← c .before .before .before .before .before .before .before .pre .1, c .before .before .before .before .said .given .1)
+returns c = rw (
+  c .before .before .before .before .before .before .before .pre .0,
+  ← c .before .before .before .before .before .before .before .pre .1,
+  c .before .before .before .before .said .given .1,
+)
 
 returns-2 : tie.Need-returns-2
 returns-2 c = rw (c .before .told .ensures)

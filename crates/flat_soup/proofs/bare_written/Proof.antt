@@ -66,7 +66,8 @@ returns-5 : tie.Need-returns-5
 unfolding soupBare
 returns-5 c =
     let n = length (now (c .before .before .before .before .before .before .before .before .args .body)) in
-    rw (c .before .before .before .before .before .match .keys1, eq-eqb n 0 (c .before .before .before .before .if1 .left)) (c .before .before .write-server-heartbeat .ensures)
+    rw (c .before .before .before .before .before .match .keys1, eq-eqb n 0 (c .before .before .before .before .if1 .left))
+    (c .before .before .write-server-heartbeat .ensures)
 
 same-length-2 : tie.Need-same-length-2
 same-length-2 c = search needs
@@ -75,7 +76,8 @@ returns-6 : tie.Need-returns-6
 unfolding soupBare
 returns-6 c =
     let n = length (now (c .before .before .before .before .before .before .before .before .args .body)) in
-    rw (c .before .before .before .before .before .match .keys2, eq-eqb n 0 (c .before .before .before .before .if2 .left)) (c .before .before .write-end-of-session .ensures)
+    rw (c .before .before .before .before .before .match .keys2, eq-eqb n 0 (c .before .before .before .before .if2 .left))
+    (c .before .before .write-end-of-session .ensures)
 
 same-length-3 : tie.Need-same-length-3
 same-length-3 c = search needs
@@ -84,7 +86,8 @@ returns-7 : tie.Need-returns-7
 unfolding soupBare
 returns-7 c =
     let n = length (now (c .before .before .before .before .before .before .before .before .args .body)) in
-    rw (c .before .before .before .before .before .match .keys3, eq-eqb n 0 (c .before .before .before .before .if3 .left)) (c .before .before .write-client-heartbeat .ensures)
+    rw (c .before .before .before .before .before .match .keys3, eq-eqb n 0 (c .before .before .before .before .if3 .left))
+    (c .before .before .write-client-heartbeat .ensures)
 
 same-length-4 : tie.Need-same-length-4
 same-length-4 c = search needs
@@ -93,7 +96,8 @@ returns-8 : tie.Need-returns-8
 unfolding soupBare
 returns-8 c =
     let n = length (now (c .before .before .before .before .before .before .before .before .args .body)) in
-    rw (c .before .before .before .before .before .match .keys4, eq-eqb n 0 (c .before .before .before .before .if4 .left)) (c .before .before .write-logout .ensures)
+    rw (c .before .before .before .before .before .match .keys4, eq-eqb n 0 (c .before .before .before .before .if4 .left))
+    (c .before .before .write-logout .ensures)
 
 returns-9 : tie.Need-returns-9
 unfolding soupBare
@@ -102,7 +106,8 @@ returns-9 c =
     let k = a .kind in
     let n = length (now (a .body)) in
     let m = c .before .match .rest in
-    unfits _ _ 4098 (2 + n) 3 _ (rw (ne-eqb k 72 (m .0 .0 .0 .1), ne-eqb k 90 (m .0 .0 .1), ne-eqb k 82 (m .0 .1), ne-eqb k 79 (m .1))) (c .unfit5 .ensures)
+    unfits _ _ 4098 (2 + n) 3 _ (rw (ne-eqb k 72 (m .0 .0 .0 .1), ne-eqb k 90 (m .0 .0 .1), ne-eqb k 82 (m .0 .1), ne-eqb k 79 (m .1)))
+    (c .unfit5 .ensures)
 
 pub bare-written-spec : {M : Type 1} → statement M
 bare-written-spec =

@@ -102,7 +102,13 @@ returns-7 : tie.Need-returns-7
 returns-7 c = rw (c .bare2 .ensures, c .before .enum-told2 .given .1)
 
 returns-8 : tie.Need-returns-8
-returns-8 c = rw (c .logged-in .ensures, c .before .name-bytes3 .ensures, c .before .before .name-bytes2 .ensures, c .before .before .before .user-bytes .ensures, c .before .before .before .before .before .said6 .given .1)
+returns-8 c = rw (
+  c .logged-in .ensures,
+  c .before .name-bytes3 .ensures,
+  c .before .before .name-bytes2 .ensures,
+  c .before .before .before .user-bytes .ensures,
+  c .before .before .before .before .before .said6 .given .1,
+)
 
 returns-9 : tie.Need-returns-9
 returns-9 c = rw (c .payload3 .ensures, c .before .before .said7 .given .1)

@@ -87,7 +87,13 @@ returns-7 : tie.Need-returns-7
 unfolding soupReply
 returns-7 c =
     let n = length (now (c .before .before .before .before .before .before .before .before .before .before .before .args .body)) in
-    rw (c .before .before .before .before .before .before .before .before .match .keys4, eq-eqb n 0 (c .before .before .before .before .before .before .before .if1 .left), ← c .before .before .before .before .name-of .ensures .1) (c .before .before .write-accept .ensures)
+    rw (
+      c .before .before .before .before .before .before .before .before .match .keys4,
+      eq-eqb n 0
+          (c .before .before .before .before .before .before .before .if1 .left),
+      ← c .before .before .before .before .name-of .ensures .1,
+    )
+    (c .before .before .write-accept .ensures)
 
 same-length-5 : tie.Need-same-length-5
 same-length-5 c = search needs
@@ -96,7 +102,8 @@ returns-8 : tie.Need-returns-8
 unfolding soupReply
 returns-8 c =
     let n = length (now (c .before .before .before .before .before .before .before .before .args .body)) in
-    rw (c .before .before .before .before .before .match .keys5, eq-eqb n 0 (c .before .before .before .before .if2 .left)) (c .before .before .write-reject .ensures)
+    rw (c .before .before .before .before .before .match .keys5, eq-eqb n 0 (c .before .before .before .before .if2 .left))
+    (c .before .before .write-reject .ensures)
 
 same-length-6 : tie.Need-same-length-6
 same-length-6 c = search needs
@@ -105,7 +112,8 @@ returns-9 : tie.Need-returns-9
 unfolding soupReply
 returns-9 c =
     let n = length (now (c .before .before .before .before .before .before .before .before .args .body)) in
-    rw (c .before .before .before .before .before .match .keys6, eq-eqb n 0 (c .before .before .before .before .if3 .left)) (c .before .before .login-written .ensures)
+    rw (c .before .before .before .before .before .match .keys6, eq-eqb n 0 (c .before .before .before .before .if3 .left))
+    (c .before .before .login-written .ensures)
 
 same-length-7 : tie.Need-same-length-7
 same-length-7 c = search needs
@@ -115,7 +123,15 @@ unfolding soupReply
 returns-10 c =
     let k = c .before .before .before .before .before .before .before .args .fields .kind in
     let m = c .before .before .before .before .match .rest in
-    rw (ne-eqb k 43 (m .0 .0 .0 .0 .0 .1), ne-eqb k 83 (m .0 .0 .0 .0 .1), ne-eqb k 85 (m .0 .0 .0 .1), ne-eqb k 65 (m .0 .0 .1), ne-eqb k 74 (m .0 .1), ne-eqb k 76 (m .1)) (c .before .before .bare-written .ensures)
+    rw (
+      ne-eqb k 43 (m .0 .0 .0 .0 .0 .1),
+      ne-eqb k 83 (m .0 .0 .0 .0 .1),
+      ne-eqb k 85 (m .0 .0 .0 .1),
+      ne-eqb k 65 (m .0 .0 .1),
+      ne-eqb k
+          74 (m .0 .1),
+      ne-eqb k 76 (m .1),
+    ) (c .before .before .bare-written .ensures)
 
 pub written-spec : {M : Type 1} → statement M
 written-spec =

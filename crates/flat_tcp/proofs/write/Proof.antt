@@ -16,7 +16,8 @@ same-length : tie.Need-same-length
 same-length c = search needs
 
 returns : tie.Need-returns
-returns c = rw (c .before .before .before .before .before .fields-of .ensures) at (flattens (c .before .before .before .write .ensures) (c .wrote-of .ensures))
+returns c = rw (c .before .before .before .before .before .fields-of .ensures) at (flattens (c .before .before .before .write .ensures)
+    (c .wrote-of .ensures))
 
 pub write-spec : {M : Type 1} → statement M
 write-spec =

@@ -60,7 +60,13 @@ returns-4 : tie.Need-returns-4
 unfolding downReply
 returns-4 c =
     let n = length (now (c .before .before .before .before .before .before .before .before .before .before .before .args .body)) in
-    rw (c .before .before .before .before .before .before .before .before .match .keys1, eq-eqb n 0 (c .before .before .before .before .before .before .before .if1 .left), ← c .before .before .before .before .name-of .ensures .1) (c .before .before .write-accept .ensures)
+    rw (
+      c .before .before .before .before .before .before .before .before .match .keys1,
+      eq-eqb n 0
+          (c .before .before .before .before .before .before .before .if1 .left),
+      ← c .before .before .before .before .name-of .ensures .1,
+    )
+    (c .before .before .write-accept .ensures)
 
 same-length-2 : tie.Need-same-length-2
 same-length-2 c = search needs
@@ -69,7 +75,8 @@ returns-5 : tie.Need-returns-5
 unfolding downReply
 returns-5 c =
     let n = length (now (c .before .before .before .before .before .before .before .before .args .body)) in
-    rw (c .before .before .before .before .before .match .keys2, eq-eqb n 0 (c .before .before .before .before .if2 .left)) (c .before .before .write-reject .ensures)
+    rw (c .before .before .before .before .before .match .keys2, eq-eqb n 0 (c .before .before .before .before .if2 .left))
+    (c .before .before .write-reject .ensures)
 
 same-length-3 : tie.Need-same-length-3
 same-length-3 c = search needs
@@ -85,7 +92,8 @@ returns-7 : tie.Need-returns-7
 unfolding downReply
 returns-7 c =
     let n = length (now (c .before .before .before .before .before .before .before .before .args .body)) in
-    rw (c .before .before .before .before .before .match .keys4, eq-eqb n 0 (c .before .before .before .before .if3 .left)) (c .before .before .write-end .ensures)
+    rw (c .before .before .before .before .before .match .keys4, eq-eqb n 0 (c .before .before .before .before .if3 .left))
+    (c .before .before .write-end .ensures)
 
 returns-8 : tie.Need-returns-8
 unfolding downReply
@@ -94,7 +102,8 @@ returns-8 c =
     let k = a .fields .kind in
     let n = length (now (a .body)) in
     let m = c .before .match .rest in
-    unfits _ _ 1472 (1 + n) 3 _ (rw (ne-eqb k 65 (m .0 .0 .0 .1), ne-eqb k 74 (m .0 .0 .1), ne-eqb k 83 (m .0 .1), ne-eqb k 69 (m .1))) (c .unfit4 .ensures)
+    unfits _ _ 1472 (1 + n) 3 _ (rw (ne-eqb k 65 (m .0 .0 .0 .1), ne-eqb k 74 (m .0 .0 .1), ne-eqb k 83 (m .0 .1), ne-eqb k 69 (m .1)))
+    (c .unfit4 .ensures)
 
 pub written-spec : {M : Type 1} → statement M
 written-spec =

@@ -51,7 +51,13 @@ returns : tie.Need-returns
 returns c = rw (c .no-packet .ensures, c .before .before .said .given .1)
 
 returns-2 : tie.Need-returns-2
-returns-2 c = rw (c .logged-in .ensures, c .before .name-bytes2 .ensures, c .before .before .name-bytes .ensures, c .before .before .before .user-bytes .ensures, c .before .before .before .before .before .said2 .given .1)
+returns-2 c = rw (
+  c .logged-in .ensures,
+  c .before .name-bytes2 .ensures,
+  c .before .before .name-bytes .ensures,
+  c .before .before .before .user-bytes .ensures,
+  c .before .before .before .before .before .said2 .given .1,
+)
 
 returns-3 : tie.Need-returns-3
 returns-3 c = rw (c .requested .ensures, c .before .before .said3 .given .1)

@@ -22,7 +22,11 @@ cast-requested : tie.Need-cast-requested
 cast-requested c =
     let s = c .before .before .before .before in
     let n = c .before .count .given .0 .0 in
-    omega (arith, few (now (s .before .args .packet)) (λ i. s .shared-slice-known .given i .fits) n (sym (c .before .before .before .read-up .ensures) ∙ c .before .count .given .1))
+    omega (
+      arith,
+      few (now (s .before .args .packet)) (λ i. s .shared-slice-known .given i .fits) n
+          (sym (c .before .before .before .read-up .ensures) ∙ c .before .count .given .1),
+    )
 
 requested-requires : tie.Need-requested-requires
 requested-requires c κs = search needs

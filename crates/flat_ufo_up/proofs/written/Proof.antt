@@ -69,7 +69,8 @@ returns-5 : tie.Need-returns-5
 unfolding messageReply
 returns-5 c =
     let n = length (now (c .before .before .before .before .before .before .before .before .args .body)) in
-    rw (c .before .before .before .before .before .match .keys1, eq-eqb n 0 (c .before .before .before .before .if1 .left)) (c .before .before .login-written .ensures)
+    rw (c .before .before .before .before .before .match .keys1, eq-eqb n 0 (c .before .before .before .before .if1 .left))
+    (c .before .before .login-written .ensures)
 
 same-length-2 : tie.Need-same-length-2
 same-length-2 c = search needs
@@ -78,7 +79,8 @@ returns-6 : tie.Need-returns-6
 unfolding messageReply
 returns-6 c =
     let n = length (now (c .before .before .before .before .before .before .before .before .args .body)) in
-    rw (c .before .before .before .before .before .match .keys2, eq-eqb n 0 (c .before .before .before .before .if2 .left)) (c .before .before .write-request .ensures)
+    rw (c .before .before .before .before .before .match .keys2, eq-eqb n 0 (c .before .before .before .before .if2 .left))
+    (c .before .before .write-request .ensures)
 
 same-length-3 : tie.Need-same-length-3
 same-length-3 c = search needs
@@ -94,7 +96,8 @@ returns-8 : tie.Need-returns-8
 unfolding messageReply
 returns-8 c =
     let n = length (now (c .before .before .before .before .before .before .before .before .args .body)) in
-    rw (c .before .before .before .before .before .match .keys4, eq-eqb n 0 (c .before .before .before .before .if3 .left)) (c .before .before .write-heartbeat .ensures)
+    rw (c .before .before .before .before .before .match .keys4, eq-eqb n 0 (c .before .before .before .before .if3 .left))
+    (c .before .before .write-heartbeat .ensures)
 
 same-length-5 : tie.Need-same-length-5
 same-length-5 c = search needs
@@ -103,7 +106,8 @@ returns-9 : tie.Need-returns-9
 unfolding messageReply
 returns-9 c =
     let n = length (now (c .before .before .before .before .before .before .before .before .args .body)) in
-    rw (c .before .before .before .before .before .match .keys5, eq-eqb n 0 (c .before .before .before .before .if4 .left)) (c .before .before .write-logout .ensures)
+    rw (c .before .before .before .before .before .match .keys5, eq-eqb n 0 (c .before .before .before .before .if4 .left))
+    (c .before .before .write-logout .ensures)
 
 returns-10 : tie.Need-returns-10
 unfolding messageReply
@@ -112,7 +116,14 @@ returns-10 c =
     let k = a .fields .kind in
     let n = length (now (a .body)) in
     let m = c .before .match .rest in
-    unfits _ _ 1472 (3 + n) 3 _ (rw (ne-eqb k 76 (m .0 .0 .0 .0 .1), ne-eqb k 84 (m .0 .0 .0 .1), ne-eqb k 85 (m .0 .0 .1), ne-eqb k 82 (m .0 .1), ne-eqb k 79 (m .1))) (c .unfit5 .ensures)
+    unfits _ _ 1472 (3 + n) 3 _ (rw (
+      ne-eqb k 76 (m .0 .0 .0 .0 .1),
+      ne-eqb k 84 (m .0 .0 .0 .1),
+      ne-eqb k 85 (m .0 .0 .1),
+      ne-eqb k 82
+          (m .0 .1),
+      ne-eqb k 79 (m .1),
+    )) (c .unfit5 .ensures)
 
 pub written-spec : {M : Type 1} → statement M
 written-spec =

@@ -1,5 +1,7 @@
--- `ask_lent` meets its contract: a walk of its MIR, by hand, on the pattern of `take_lent`. The borrow of the record is opened, the record is copied out, `ask` is called on the copy, and the match on the answer either stores the record afterwards or lets the one that lies there be. Each arm closes the borrow.
--- All that the proof knows of `ask` is that it meets its contract, and the walk never looks inside a record.
+-- `ask_lent` meets its contract: a walk of its MIR, by hand, on the pattern of `take_lent`. The borrow of the record is opened, the record
+-- is copied out, `ask` is called on the copy, and the match on the answer either stores the record afterwards or lets the one that lies
+-- there be. Each arm closes the borrow. All that the proof knows of `ask` is that it meets its contract, and the walk never looks inside a
+-- record.
 -- Assumes nothing.
 use mathlib.Core.Path.{_≡_, refl, sym, ap, subst, _∙_}
 use Prim.Native.Nat.{ℕ}
@@ -20,8 +22,10 @@ use prog.Wp.{Heap, Calls, Loops, WpFn, Tables}
 use ghost.Atoms.{Atoms, sem}
 use contract.Monad.{Fun, fact}
 use contract.Running.{givenOf, tables, tablesOf}
-use types.Kit.{Given, ‵, raw, some, later, _⊛_, ⋆, _$_, _∵_, !, qed, by, move, keep, drop, use1, use2, split, join, pick, rewrite, fsplit, fsplit3, fjoin, fjoin3, feqI, suffices, frame, await, done}
-use types.Run.{look, look-raw, init, store-raw, stop, hop, fld, from, load, of-opd, and-then, no-more, assigns, assigns-last, first, skips, land, returns, enter, alloc1, alloc0, params1, pass1, pass0}
+use types.Kit.{Given, ‵, raw, some, later, _⊛_, ⋆, _$_, _∵_, !, qed, by, move, keep, drop, use1, use2, split, join, pick, rewrite, fsplit}
+use types.Kit.{fsplit3, fjoin, fjoin3, feqI, suffices, frame, await, done}
+use types.Run.{look, look-raw, init, store-raw, stop, hop, fld, from, load, of-opd, and-then, no-more, assigns, assigns-last, first, skips}
+use types.Run.{land, returns, enter, alloc1, alloc0, params1, pass1, pass0}
 use types.Part.{whole, look-in}
 use types.Match.{live, vrt, in-variant, look-tag, by-variants}
 use types.SemTy.{Body}
@@ -73,7 +77,10 @@ use Rattle.in_place.proofs.ask_lent.Statement as stated
 use Rattle.in_place.proofs.ask_lent.Code as code
 
 abbrev stayed : Stays (f.ended .signature .params) (f.ended .kept)
-stayed = (stay-ref (0 ∷ []) tt (plain (λ _. R.the-row)), (stay-none (λ _. S.the-row) yes, (stay-none (λ _. P.the-row) yes, (stay-none (λ _. f64) yes, tt))))
+stayed = (
+  stay-ref (0 ∷ []) tt (plain (λ _. R.the-row)),
+  (stay-none (λ _. S.the-row) yes, (stay-none (λ _. P.the-row) yes, (stay-none (λ _. f64) yes, tt))),
+)
 
 -- the contract that the proof cites
 abbrev Ask : {M : Type 1} (𝓤 : URA M) (H : Heap 𝓤) (A : Atoms 𝓤) (mem : Memory → SProp 𝓤) (run : Routine → Fun 𝓤) → Contract 𝓤
@@ -142,9 +149,12 @@ after-is : (was : Record) (r : Asked) (w : Val) → Is T.the-row r (w ∷ []) �
 after-is was (Refused n) w is three = absurd (omega (arith, three))
 after-is was Nothing w is three = absurd (omega (arith, three))
 after-is was Wait w is three = absurd (omega (arith, three))
-after-is was (Request first count after) w is three = fits-so after _ (EL.owed T.the-type T′.the-laws (Request first count after) _ is .1 .1 .0)
+after-is was (Request first count after) w is three =
+    fits-so after _ (EL.owed T.the-type T′.the-laws (Request first count after) _ is .1 .1 .0)
 
-module _ {M : Type 1} (𝓤 : URA M) (H : Heap 𝓤) (A : Atoms 𝓤) (W : Given 𝓤 H A) (at-mem : Memory → SProp 𝓤) (run : Routine → Fun 𝓤) (κ : Lft) (q : Share) (b o : ℕ) (γ : GName) (h : Record) (s : Sheet) (p : Patience) (m : Float) (s-is : Is S.the-row s (S′.lowered s ∷ [])) (p-is : Is P.the-row p (P′.lowered p ∷ [])) (m-is : Is f64 m (vfloat binary64 m ∷ [])) where
+module _ {M : Type 1} (𝓤 : URA M) (H : Heap 𝓤) (A : Atoms 𝓤) (W : Given 𝓤 H A) (at-mem : Memory → SProp 𝓤) (run : Routine → Fun 𝓤) (κ : Lft)
+    (q : Share) (b o : ℕ) (γ : GName) (h : Record) (s : Sheet) (p : Patience) (m : Float) (s-is : Is S.the-row s (S′.lowered s ∷ []))
+    (p-is : Is P.the-row p (P′.lowered p ∷ [])) (m-is : Is f64 m (vfloat binary64 m ∷ [])) where
   -- the three plain arguments, and their machine values
   abbrev Plain : Type 0
   Plain = Sheet × (Patience × (Float × Unit {0}))
@@ -185,40 +195,63 @@ module _ {M : Type 1} (𝓤 : URA M) (H : Heap 𝓤) (A : Atoms 𝓤) (W : Given
   met r d e k = record { answer = e; stored = k ∙ ap (kept h) e ∙ kept-so h verdict }
 
   exits : (r : Asked) (d : Record) → AskedLent verdict h r d → Is T.the-row r (T′.lowered r ∷ [])
-      → ent 𝓤 (⋆ 𝓤 H A (‵ (fobs γ (R.the-row .coded .code d)) ∷ ‵ (fbor κ (Body (mem R.the-row) b o γ)) ∷ ‵ (flft κ q) ∷ [])) (Post (T′.lowered r))
+      → ent 𝓤 (⋆ 𝓤 H A (‵ (fobs γ (R.the-row .coded .code d)) ∷ ‵ (fbor κ (Body (mem R.the-row) b o γ)) ∷ ‵ (flft κ q) ∷ []))
+      (Post (T′.lowered r))
   exits r d e is =
       qed W (‵ (fobs γ (R.the-row .coded .code d)) ∷ ‵ (fbor κ (Body (mem R.the-row) b o γ)) ∷ ‵ (flft κ q) ∷ []) ∵
-      suffices ! _ (ends-at 𝓤 H A f.ended stayed (f.clauses 𝓤 H A at-mem run) W (((κ, tt), (q, tt), tt, a, vals), tt) (T′.lowered r) r (d, (tt, (tt, (tt, tt)))) (tt, (tt, (tt, (tt, tt))))) $ says ! e $
+      suffices ! _ (ends-at 𝓤 H A f.ended stayed (f.clauses 𝓤 H A at-mem run) W (((κ, tt), (q, tt), tt, a, vals), tt) (T′.lowered r) r
+      (d, (tt, (tt, (tt, tt)))) (tt, (tt, (tt, (tt, tt))))) $ says ! e $
       nothing ! $ move ! (3 ∷ 0 ∷ []) $ join ! $ frame ! $ feqI ! (List Val) (vptr b o ∷ []) (vptr b o ∷ []) refl $ fjoin3 ! $
-      nothing ! $ owned ! f64 (Is f64) (float-makes 𝓤 H A W binary64) m _ m-is $ fjoin ! $ owned ! P.the-row (Is P.the-row) (EL.makes P.the-type P′.the-plain 𝓤 H A) p _ p-is $ fjoin ! $
-      owned ! S.the-row (Is S.the-row) (LL.makes S.the-type S′.the-plain 𝓤 H A) s _ s-is $ fjoin ! $ move ! (1 ∷ 0 ∷ []) $ fjoin ! $ frame ! $
+      nothing ! $ owned ! f64 (Is f64) (float-makes 𝓤 H A W binary64) m _ m-is $ fjoin ! $ owned ! P.the-row (Is P.the-row)
+      (EL.makes P.the-type P′.the-plain 𝓤 H A) p _ p-is $ fjoin ! $
+      owned ! S.the-row (Is S.the-row) (LL.makes S.the-type S′.the-plain 𝓤 H A) s _ s-is $ fjoin ! $ move ! (1 ∷ 0 ∷ []) $ fjoin !
+      $ frame ! $
       owned ! T.the-row (Is T.the-row) (EL.makes T.the-type T′.the-plain 𝓤 H A) r _ is $ done !
 
   module _ (C : Calls 𝓤 H) (Λ : Loops 𝓤 H) (fm : FmC 𝓤 H (W .laws) C) (known : Triple 𝓤 (C #ask) (Ask 𝓤 H A at-mem run)) where
-    walk : ent 𝓤 (onEntry 𝓤 H A f.signature (κ, tt) (q, tt) a vals) (WpFn 𝓤 H C Λ code.function (vptr b o ∷ S′.lowered s ∷ P′.lowered p ∷ vfloat binary64 m ∷ []) Post)
+    walk : ent 𝓤 (onEntry 𝓤 H A f.signature (κ, tt) (q, tt) a vals)
+        (WpFn 𝓤 H C Λ code.function (vptr b o ∷ S′.lowered s ∷ P′.lowered p ∷ vfloat binary64 m ∷ []) Post)
     walk =
-        qed W ((‵ (flft κ q) ⊛ ‵ ftrue) ∷ ‵ (owns (MutRef (named 0) κ R.the-row ∷ S.the-row ∷ P.the-row ∷ f64 ∷ []) a vals) ∷ []) ∵ enter ! C Λ code.function (vptr b o ∷ S′.lowered s ∷ P′.lowered p ∷ vfloat binary64 m ∷ []) _ $
-        alloc1 ! (λ l₀. alloc1 ! (λ l₁. alloc1 ! (λ l₂. alloc1 ! (λ l₃. alloc1 ! (λ l₄. alloc1 ! (λ l₅. alloc1 ! (λ l₆. alloc1 ! (λ l₇. alloc0 ! $ params1 ! $
-        pass1 ! (init ! 12 refl (tt, tt)) $ pass1 ! (init ! 10 refl (LL.lawful S.the-type S′.the-laws 𝓤 H A W .typed s _ s-is .0)) $ pass1 ! (init ! 8 refl (EL.lawful P.the-type P′.the-laws 𝓤 H A W tt .typed p _ p-is .0)) $ pass1 ! (init ! 6 refl (tt, passes _ (m-is .1))) $ pass0 ! $
-        -- [_7; …; _6; …; _5; …; _4; …; _3; …; _2; …; _1; …; room for _0; …; the token; what the parameters own]: the record's borrow is opened
+        qed W ((‵ (flft κ q) ⊛ ‵ ftrue) ∷ ‵ (owns (MutRef (named 0) κ R.the-row ∷ S.the-row ∷ P.the-row ∷ f64 ∷ []) a vals) ∷ []) ∵ enter !
+        C Λ code.function (vptr b o ∷ S′.lowered s ∷ P′.lowered p ∷ vfloat binary64 m ∷ []) _ $
+        alloc1 ! (λ l₀. alloc1 ! (λ l₁. alloc1 !
+        (λ l₂. alloc1 ! (λ l₃. alloc1 ! (λ l₄. alloc1 ! (λ l₅. alloc1 ! (λ l₆. alloc1 ! (λ l₇. alloc0 ! $ params1 ! $
+        pass1 ! (init ! 12 refl (tt, tt)) $ pass1 ! (init ! 10 refl (LL.lawful S.the-type S′.the-laws 𝓤 H A W .typed s _ s-is .0))
+        $ pass1 ! (init ! 8 refl (EL.lawful P.the-type P′.the-laws 𝓤 H A W tt .typed p _ p-is .0))
+        $ pass1 ! (init ! 6 refl (tt, passes _ (m-is .1))) $ pass0 ! $
+        -- [_7; …; _6; …; _5; …; _4; …; _3; …; _2; …; _1; …; room for _0; …; the token; what the parameters own]: the record's borrow is
+        -- opened
         move ! (17 ∷ []) $ fsplit ! $ fsplit3 ! $ drop ! $ move ! (19 ∷ []) $ split ! $ move ! (2 ∷ 3 ∷ 0 ∷ []) $ opened ! tt h b o (λ was.
-        -- [what the record owns; its cell; the open borrow; obs; auth; true; what the plain arguments own; _7; …; _6; …; _5; …; _4; …; _3; …; _2; …; _1; …; room for _0; …]
-        assigns ! (of-opd ! (load ! (from ! (hop ! (look ! 19 refl) (stop !))) (look-raw ! 1 refl))) (from ! (stop !)) (init ! 11 refl (typed-so 𝓤 H A W h was .0)) $
+        -- [what the record owns; its cell; the open borrow; obs; auth; true; what the plain arguments own; _7; …; _6; …; _5; …; _4; …; _3;
+        -- …; _2; …; _1; …; room for _0; …]
+        assigns ! (of-opd ! (load ! (from ! (hop ! (look ! 19 refl) (stop !))) (look-raw ! 1 refl))) (from ! (stop !))
+        (init ! 11 refl (typed-so 𝓤 H A W h was .0)) $
         -- the call
         move ! (0 ∷ 6 ∷ []) $ use2 W (raw (Ask 𝓤 H A at-mem run .pre to)) goes $
-        calls-at ! fm (Ask 𝓤 H A at-mem run) known to (and-then ! (load ! (from ! (stop !)) (look ! 10 refl)) (and-then ! (load ! (from ! (stop !)) (look ! 16 refl)) (and-then ! (load ! (from ! (stop !)) (look ! 14 refl)) (and-then ! (load ! (from ! (stop !)) (look ! 12 refl)) (no-more !))))) (λ w.
-        use1 W (later (some (λ (r : Asked). (‵ ftrue ⊛ ‵ (T.the-row .own r (w ∷ []))) ⊛ raw (ensured 𝓤 H A ask.ended (ask.clauses 𝓤 H A at-mem run) tt (h, plains) tt r)))) (id⊢ 𝓤 _) $ await ! tt $ pick ! (λ r.
-        split ! $ move ! (1 ∷ []) $ use1 W (raw (fact 𝓤 (r ≡ askedOf verdict))) (said r) $ heard ! (r ≡ askedOf verdict) (λ e. split ! $ drop ! $
-        -- [what the answer owns; the cell; the open borrow; obs; auth; true; room for _7; …; _6; …; _5; …; _4; …; _3; …; _2; …; _1; …; room for _0; …]
+        calls-at ! fm (Ask 𝓤 H A at-mem run) known to
+        (and-then ! (load ! (from ! (stop !)) (look ! 10 refl))
+        (and-then ! (load ! (from ! (stop !)) (look ! 16 refl))
+        (and-then ! (load ! (from ! (stop !)) (look ! 14 refl)) (and-then ! (load ! (from ! (stop !)) (look ! 12 refl)) (no-more !)))))
+        (λ w.
+        use1 W (later (some (λ (r : Asked). (‵ ftrue ⊛ ‵ (T.the-row .own r (w ∷ []))) ⊛ raw
+        (ensured 𝓤 H A ask.ended (ask.clauses 𝓤 H A at-mem run) tt (h, plains) tt r)))) (id⊢ 𝓤 _) $ await ! tt $ pick ! (λ r.
+        split ! $ move ! (1 ∷ []) $ use1 W (raw (fact 𝓤 (r ≡ askedOf verdict))) (said r) $ heard ! (r ≡ askedOf verdict)
+        (λ e. split ! $ drop ! $
+        -- [what the answer owns; the cell; the open borrow; obs; auth; true; room for _7; …; _6; …; _5; …; _4; …; _3; …; _2; …; _1; …; room
+        -- for _0; …]
         peeks ! T.the-row (Is T.the-row) (shows 𝓤 H A T.the-row) r (w ∷ []) (λ is.
-        land ! (from ! (stop !)) (init ! 8 refl (EL.lawful T.the-type T′.the-laws 𝓤 H A W tt .typed r _ is .0)) $ rewrite ! 8 (λ (u : Val). ‵ (fat fullShare T′.mir l₆ 0 u)) (ap only (T′.lowers .val-is r (w ∷ []) is) ∙ tagged r) refl $
+        land ! (from ! (stop !)) (init ! 8 refl (EL.lawful T.the-type T′.the-laws 𝓤 H A W tt .typed r _ is .0))
+        $ rewrite ! 8 (λ (u : Val). ‵ (fat fullShare T′.mir l₆ 0 u)) (ap only (T′.lowers .val-is r (w ∷ []) is) ∙ tagged r) refl $
         within ! (λ on. by-variants ! 8 (whole !) (load ! (from ! (vrt ! refl (fld ! refl (stop !)))) (look-tag ! 8 (whole !))) tt (
           -- a request: the record afterwards is stored
           (λ three. rewrite ! 8 (λ (u : Val). ‵ (fat fullShare T′.mir l₆ 0 u)) (request-so h r three) refl $
-              assigns ! (of-opd ! (load ! (from ! (vrt ! refl (fld ! refl (stop !)))) (look-in ! 8 (in-variant ! 3 2 refl refl (whole !))))) (from ! (stop !)) (init ! 6 refl (typed-so 𝓤 H A W (kept h r) (after-is h r w is three) .0)) $
-              assigns-last ! (of-opd ! (load ! (from ! (stop !)) (look ! 6 refl))) (from ! (hop ! (look ! 18 refl) (stop !))) (store-raw ! 1 refl (typed-so 𝓤 H A W (kept h r) (after-is h r w is three) .0)) $
+              assigns ! (of-opd ! (load ! (from ! (vrt ! refl (fld ! refl (stop !)))) (look-in ! 8 (in-variant ! 3 2 refl refl (whole !)))))
+              (from ! (stop !)) (init ! 6 refl (typed-so 𝓤 H A W (kept h r) (after-is h r w is three) .0)) $
+              assigns-last ! (of-opd ! (load ! (from ! (stop !)) (look ! 6 refl))) (from ! (hop ! (look ! 18 refl) (stop !)))
+              (store-raw ! 1 refl (typed-so 𝓤 H A W (kept h r) (after-is h r w is three) .0)) $
               on _ $ rewrite ! 8 (λ (u : Val). ‵ (fat fullShare T′.mir l₆ 0 u)) (sym (tagged r ∙ request-so h r three)) refl $
-              assigns ! (of-opd ! (load ! (from ! (stop !)) (look ! 8 refl))) (from ! (stop !)) (init ! 20 refl (EL.lawful T.the-type T′.the-laws 𝓤 H A W tt .typed r _ (answer-is r w is) .0)) $
+              assigns ! (of-opd ! (load ! (from ! (stop !)) (look ! 8 refl))) (from ! (stop !))
+              (init ! 20 refl (EL.lawful T.the-type T′.the-laws 𝓤 H A W tt .typed r _ (answer-is r w is) .0)) $
               drop ! $ closed ! tt (kept h r) (after-is h r w is three) b o $
               -- [obs; the borrow; its token; true; _7; …]
               returns ! (look ! 18 refl) $ leaves ! 4 (held _ ∷ held _ ∷ held _ ∷ held _ ∷ held _ ∷ held _ ∷ held _ ∷ held _ ∷ []) refl $
@@ -226,7 +259,8 @@ module _ {M : Type 1} (𝓤 : URA M) (H : Heap 𝓤) (A : Atoms 𝓤) (W : Given
           -- no request: the record is left as it lies
           (
             (λ others. skips ! $ on _ $ rewrite ! 8 (λ (u : Val). ‵ (fat fullShare T′.mir l₆ 0 u)) (sym (tagged r)) refl $
-                assigns ! (of-opd ! (load ! (from ! (stop !)) (look ! 8 refl))) (from ! (stop !)) (init ! 20 refl (EL.lawful T.the-type T′.the-laws 𝓤 H A W tt .typed r _ (answer-is r w is) .0)) $
+                assigns ! (of-opd ! (load ! (from ! (stop !)) (look ! 8 refl))) (from ! (stop !))
+                (init ! 20 refl (EL.lawful T.the-type T′.the-laws 𝓤 H A W tt .typed r _ (answer-is r w is) .0)) $
                 drop ! $ closed ! tt h was b o $
                 returns ! (look ! 18 refl) $ leaves ! 4 (held _ ∷ held _ ∷ held _ ∷ held _ ∷ held _ ∷ held _ ∷ held _ ∷ []) refl $
                 keep ! (0 ∷ 1 ∷ 2 ∷ []) $ by ! (exits r h (met r h e (unasked-so h r others)) (answer-is r w is))),
@@ -235,19 +269,36 @@ module _ {M : Type 1} (𝓤 : URA M) (H : Heap 𝓤) (A : Atoms 𝓤) (W : Given
         )))))))))))))))
 
 module _ {M : Type 1} (𝓤 : URA M) (H : Heap 𝓤) (A : Atoms 𝓤) (W : Given 𝓤 H A) (mem : Memory → SProp 𝓤) (run : Routine → Fun 𝓤) where
-  walks : (C : Calls 𝓤 H) (Λ : Loops 𝓤 H) → FmC 𝓤 H (W .laws) C → Triple 𝓤 (C #ask) (Ask 𝓤 H A mem run) → Walks 𝓤 H A f.ended stayed (WpFn 𝓤 H C Λ code.function) (f.clauses 𝓤 H A mem run)
+  walks : (C : Calls 𝓤 H) (Λ : Loops 𝓤 H) → FmC 𝓤 H (W .laws) C → Triple 𝓤 (C #ask) (Ask 𝓤 H A mem run)
+      → Walks 𝓤 H A f.ended stayed (WpFn 𝓤 H C Λ code.function) (f.clauses 𝓤 H A mem run)
   walks C Λ fm known = walked 𝓤 H A f.ended stayed (f.clauses 𝓤 H A mem run) (WpFn 𝓤 H C Λ code.function)
-      (λ κs. (ptr-vals, ((λ d. S′.lowered d ∷ []), ((λ d. P′.lowered d ∷ []), (float-vals binary64, tt))))) (λ κs. (mut-tells (named 0) (κs .0) R.the-row, (S′.lowers .val-is, (P′.lowers .val-is, (float-tells binary64, tt)))))
-      (λ κs qs bounds a g are. via 𝓤 _ (fst∗ 𝓤 _ (emp 𝓤)) (walk 𝓤 H A W mem run (κs .0) (qs .0) (a .0 .ptr .0) (a .0 .ptr .1) (a .0 .name) (a .0 .now) (a .1 .0) (a .1 .1 .0) (a .1 .1 .1 .0) (are .1 .0) (are .1 .1 .0) (are .1 .1 .1 .0) C Λ fm known))
+      (λ κs. (ptr-vals, ((λ d. S′.lowered d ∷ []), ((λ d. P′.lowered d ∷ []), (float-vals binary64, tt)))))
+      (λ κs. (mut-tells (named 0) (κs .0) R.the-row, (S′.lowers .val-is, (P′.lowers .val-is, (float-tells binary64, tt)))))
+      (λ κs qs bounds a g are. via 𝓤 _ (fst∗ 𝓤 _ (emp 𝓤))
+      (walk 𝓤 H A W mem run (κs .0) (qs .0) (a .0 .ptr .0) (a .0 .ptr .1) (a .0 .name) (a .0 .now) (a .1 .0) (a .1 .1 .0)
+      (a .1 .1 .1 .0) (are .1 .0) (are .1 .1 .0) (are .1 .1 .1 .0) C Λ fm known))
 
   gone : AllGo 𝓤 H A W 1 (f.signature .params) (f.ended .kept) stayed
-  gone = (goes-ref 𝓤 H A W 1 0 tt (plain (λ _. R.the-row)), (goes-none 𝓤 H A W 1 (λ _. S.the-row) yes (λ κs x f. refl), (goes-none 𝓤 H A W 1 (λ _. P.the-row) yes (λ κs x f. refl), (goes-none 𝓤 H A W 1 (λ _. f64) yes (λ κs x f. refl), tt))))
+  gone = (
+    goes-ref 𝓤 H A W 1 0 tt (plain (λ _. R.the-row)),
+    (
+      goes-none 𝓤 H A W 1 (λ _. S.the-row) yes
+          (λ κs x f. refl),
+      (
+        goes-none 𝓤 H A W 1 (λ _. P.the-row) yes
+            (λ κs x f. refl),
+        (goes-none 𝓤 H A W 1 (λ _. f64) yes (λ κs x f. refl), tt),
+      ),
+    ),
+  )
 
-meets : {M : Type 1} (𝓤 : URA M) (H : Heap 𝓤) (A : Atoms 𝓤) → Given 𝓤 H A → (mem : Memory → SProp 𝓤) (run : Routine → Fun 𝓤) (𝓣 : Tables 𝓤 H) → Triple 𝓤 (𝓣 .C #ask) (Ask 𝓤 H A mem run)
+meets : {M : Type 1} (𝓤 : URA M) (H : Heap 𝓤) (A : Atoms 𝓤) → Given 𝓤 H A → (mem : Memory → SProp 𝓤) (run : Routine → Fun 𝓤)
+    (𝓣 : Tables 𝓤 H) → Triple 𝓤 (𝓣 .C #ask) (Ask 𝓤 H A mem run)
     → Meets 𝓤 H A f.signature (WpFn 𝓤 H (𝓣 .C) (𝓣 .Λ) code.function) (f.spec 𝓤 H A mem run)
 meets 𝓤 H A W mem run 𝓣 known =
     walk-meets 𝓤 H A f.ended stayed W (gone 𝓤 H A W mem run) (f.clauses 𝓤 H A mem run)
-    (WpFn 𝓤 H (𝓣 .C) (𝓣 .Λ) code.function) (WpFn-mono 𝓤 H (W .laws) 𝓣 code.function) (walks 𝓤 H A W mem run (𝓣 .C) (𝓣 .Λ) (fmOf 𝓤 H (W .laws) 𝓣) known)
+    (WpFn 𝓤 H (𝓣 .C) (𝓣 .Λ) code.function) (WpFn-mono 𝓤 H (W .laws) 𝓣 code.function)
+    (walks 𝓤 H A W mem run (𝓣 .C) (𝓣 .Λ) (fmOf 𝓤 H (W .laws) 𝓣) known)
 
 pub ask-lent-spec : {M : Type 1} → stated.statement M
 unfolding code.routine tablesOf

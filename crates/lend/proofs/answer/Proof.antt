@@ -40,7 +40,13 @@ returns-4 : tie.Need-returns-4
 unfolding answerReply
 returns-4 c =
     let a = c .before .before .before .before .before .before .before .args in
-    refuses _ _ 9 (rw (hung (c .before .before .before), ne-eqb (a .first .0) 0 (λ e. omega arith), ne-eqb (a .count) 0 (λ e. omega arith), lt-leb limit (length (now (a .out))) (omega arith)))
+    refuses _ _ 9 (rw (
+      hung (c .before .before .before),
+      ne-eqb (a .first .0) 0 (λ e. omega arith),
+      ne-eqb (a .count) 0
+          (λ e. omega arith),
+      lt-leb limit (length (now (a .out))) (omega arith),
+    ))
 
 send-requires : tie.Need-send-requires
 send-requires c κs = (hung (c .before .before .before .before .before), omega arith, omega arith, omega arith)
@@ -52,7 +58,8 @@ returns-5 : tie.Need-returns-5
 returns-5 c =
     let d = c .before .before .before .before .before .before .before .before in
     let a = d .before .before .before .before .args in
-    settled-by (answers-packed (a .log) (now (a .bytes)) (hung d) (a .first .0) (a .count) (length (now (a .out))) (omega arith) (omega arith) (omega arith) (omega arith)) (c .before .before .send .ensures)
+    settled-by (answers-packed (a .log) (now (a .bytes)) (hung d) (a .first .0) (a .count) (length (now (a .out))) (omega arith)
+    (omega arith) (omega arith) (omega arith)) (c .before .before .send .ensures)
 
 write-end-requires : tie.Need-write-end-requires
 write-end-requires c κs = search needs
@@ -64,7 +71,8 @@ returns-6 : tie.Need-returns-6
 returns-6 c =
     let d = c .before .before .before .before .before .before .before .before .before in
     let a = d .before .before .before .before .args in
-    settled-by (answers-end (a .log) (now (a .bytes)) (hung d) (a .first .0) (a .count) (length (now (a .out))) (omega arith) (omega arith) (omega arith) (omega arith) (c .before .before .before .before .if6 .taken)) (c .before .before .write-end .ensures)
+    settled-by (answers-end (a .log) (now (a .bytes)) (hung d) (a .first .0) (a .count) (length (now (a .out))) (omega arith) (omega arith)
+    (omega arith) (omega arith) (c .before .before .before .before .if6 .taken)) (c .before .before .write-end .ensures)
 
 add-t17 : tie.Need-add-t17
 add-t17 c = search needs
@@ -82,7 +90,8 @@ returns-7 : tie.Need-returns-7
 returns-7 c =
     let d = c .before .before .before .before .before .before .before .before .before .before in
     let a = d .before .before .before .before .args in
-    settled-by (answers-beat (a .log) (now (a .bytes)) (hung d) (a .first .0) (a .count) (length (now (a .out))) (omega arith) (omega arith) (omega arith) (omega arith) (c .before .before .before .before .before .if6 .left)) (c .before .before .write-messages .ensures)
+    settled-by (answers-beat (a .log) (now (a .bytes)) (hung d) (a .first .0) (a .count) (length (now (a .out))) (omega arith) (omega arith)
+    (omega arith) (omega arith) (c .before .before .before .before .before .if6 .left)) (c .before .before .write-messages .ensures)
 
 pub answer-spec : {M : Type 1} → statement M
 answer-spec =

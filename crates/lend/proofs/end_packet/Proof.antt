@@ -38,7 +38,8 @@ returns-3 : tie.Need-returns-3
 returns-3 c =
     let d = c .before .before .before .before .before in
     let a = d .before .before .before .before .args in
-    settled-by (replies-end (a .log) (now (a .bytes)) (hung d) (length (now (a .out))) (not-false (a .log .ended) (c .before .before .before .before .if2 .left))) (c .before .before .write-end .ensures)
+    settled-by (replies-end (a .log) (now (a .bytes)) (hung d) (length (now (a .out)))
+    (not-false (a .log .ended) (c .before .before .before .before .if2 .left))) (c .before .before .write-end .ensures)
 
 pub end-packet-spec : {M : Type 1} → statement M
 end-packet-spec =

@@ -4,7 +4,7 @@ use denote.Ref.{now}
 use native.Mathlib.Nat.{sub-zero}
 use native.Mathlib.Omega.{arith}
 use borrow.Author.Needs.{needs}
-use Rattle.blocks.proofs.Steps.{Stands, found, missed}
+use Rattle.blocks.proofs.NextBlock.{Stands, found, missed}
 use Rattle.lend.specs.Answer.{run}
 use Rattle.log.proofs.Passes.{turn}
 use Rattle.lend.proofs.Measuring.{run-on, run-torn, run-full, run-done}
@@ -18,11 +18,13 @@ abbrev μ-loop : tie.MeasureT-loop
 μ-loop s at count end₀ k₀ end k = count - k
 
 -- the block that a turn found
-step : (c : tie.After-known-told Inv-loop μ-loop) → let d = c .before .before .before .before .before in let g = c .before .next2 .given .0 in Stands (now (d .before .before .args .s)) (d .loop .end) (g .1 .0) (g .1 .1 .0)
+step : (c : tie.After-known-told Inv-loop μ-loop) → let d = c .before .before .before .before .before in
+    let g = c .before .next2 .given .0 in Stands (now (d .before .before .args .s)) (d .loop .end) (g .1 .0) (g .1 .1 .0)
 step c =
     let d = c .before .before .before .before .before in
     let g = c .before .next2 .given in
-    found (now (d .before .before .args .s)) (d .loop .end) (g .0 .0) (g .0 .1 .0) (g .0 .1 .1 .0) (sym (c .before .before .before .next .ensures) ∙ g .1)
+    found (now (d .before .before .args .s)) (d .loop .end) (g .0 .0) (g .0 .1 .0) (g .0 .1 .1 .0)
+    (sym (c .before .before .before .next .ensures) ∙ g .1)
 
 loop-holds : tie.Need-loop-holds Inv-loop μ-loop
 loop-holds c =

@@ -10,7 +10,9 @@ use Rattle.lend.proofs.send.Statement.{statement}
 use Rattle.lend.proofs.send.Tie as tie
 
 -- the place and the run that were found
-found : (c : tie.After-measure) → let d = c .before .before .before .before .before .before .before .before in let a = d .args in let q = d .pre in Sent (a .log) (now (a .bytes)) (a .first .0) (a .count) (q .0) (q .1) (q .2) (length (now (a .out))) (c .before .before .at .given .0 .0) (c .measure .result)
+found : (c : tie.After-measure) → let d = c .before .before .before .before .before .before .before .before in let a = d .args in
+    let q = d .pre in Sent (a .log) (now (a .bytes)) (a .first .0) (a .count) (q .0) (q .1) (q .2) (length (now (a .out)))
+    (c .before .before .at .given .0 .0) (c .measure .result)
 found c =
     let d = c .before .before .before .before .before .before .before in
     let a = d .before .args in
@@ -67,7 +69,8 @@ returns-2 c =
     let d = c .before .before .before .before .before .before .before in
     let a = d .args in
     let q = d .pre in
-    never-refused (a .log) (now (a .bytes)) (a .first .0) (a .count) (q .0) (q .1) (q .2) (c .before .n .given .0 .0) (sym (c .before .before .before .skip .ensures) ∙ c .before .n .given .1)
+    never-refused (a .log) (now (a .bytes)) (a .first .0) (a .count) (q .0) (q .1) (q .2) (c .before .n .given .0 .0)
+    (sym (c .before .before .before .skip .ensures) ∙ c .before .n .given .1)
 
 pub send-spec : {M : Type 1} → statement M
 send-spec =

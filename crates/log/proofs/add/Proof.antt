@@ -49,7 +49,8 @@ same-length-4 c = search needs
 returns-4 : tie.Need-returns-4
 returns-4 c =
     let a = c .before .before .before .before .before .before .before .before .args in
-    refuses _ _ 7 (one-over (a .log) (now (a .bytes)) (now (a .message)) (hung (c .before .before .before)) (c .before .before .if2 .left) (c .before .if3 .left) (c .if4 .taken))
+    refuses _ _ 7 (one-over (a .log) (now (a .bytes)) (now (a .message)) (hung (c .before .before .before)) (c .before .before .if2 .left)
+    (c .before .if3 .left) (c .if4 .taken))
 
 sub-if5 : tie.Need-sub-if5
 sub-if5 c = known (c .before .before .before) .mark
@@ -63,7 +64,8 @@ same-length-5 c = search needs
 returns-5 : tie.Need-returns-5
 returns-5 c =
     let a = c .before .before .before .before .before .before .before .before .before .args in
-    refuses _ _ 9 (one-crowded (a .log) (now (a .bytes)) (now (a .message)) (hung (c .before .before .before .before)) (c .before .before .before .if2 .left) (c .before .before .if3 .left) (c .before .if4 .left) (c .if5 .taken))
+    refuses _ _ 9 (one-crowded (a .log) (now (a .bytes)) (now (a .message)) (hung (c .before .before .before .before))
+    (c .before .before .before .if2 .left) (c .before .before .if3 .left) (c .before .if4 .left) (c .if5 .taken))
 
 cast-put2 : tie.Need-cast-put2
 cast-put2 c = search needs
@@ -93,7 +95,8 @@ returns-6 : tie.Need-returns-6
 returns-6 c =
     let d = c .before .before .before .before .before .before .before .before in
     let a = d .before .before .before .before .before .before .before .before .before .args in
-    one-entered (a .log) (now (a .bytes)) (now (a .message)) (hung (d .before .before .before .before)) (d .before .before .before .if2 .left) (d .before .before .if3 .left) (d .before .if4 .left) (d .if5 .left) _ _
+    one-entered (a .log) (now (a .bytes)) (now (a .message)) (hung (d .before .before .before .before))
+    (d .before .before .before .if2 .left) (d .before .before .if3 .left) (d .before .if4 .left) (d .if5 .left) _ _
     (c .before .before .before .before .before .before .put2 .ensures) (c .before .before .copy .ensures)
 
 pub add-spec : {M : Type 1} → statement M

@@ -17,7 +17,9 @@ known : (c : tie.Else1) → let a = c .before .before .before .before .before .a
 known c = let a = c .before .before .before .before .before .args in hanging (a .log) (now (a .bytes)) (hung c)
 
 -- what the count of the messages tells
-messages : (c : tie.After-known-told2) → Tallied (toTheEnd (now (c .before .before .before .before .before .before .before .before .before .before .args .framed))) (c .before .more .given .0 .0)
+messages : (c : tie.After-known-told2) → Tallied
+    (toTheEnd (now (c .before .before .before .before .before .before .before .before .before .before .args .framed)))
+    (c .before .more .given .0 .0)
 messages c =
     counted _ _ (sym (c .before .before .before .tally .ensures) ∙ c .before .more .given .1)
 
@@ -59,7 +61,8 @@ returns-3 : tie.Need-returns-3
 returns-3 c =
     let d = c .before in
     let a = d .before .before .before .before .before .before .before .before .before .before .args in
-    refuses _ _ 7 (many-over (a .log) (now (a .bytes)) (now (a .framed)) (hung (d .before .before .before .before .before)) (d .before .before .before .before .if2 .left) _ (messages d) (c .if3 .taken))
+    refuses _ _ 7 (many-over (a .log) (now (a .bytes)) (now (a .framed)) (hung (d .before .before .before .before .before))
+    (d .before .before .before .before .if2 .left) _ (messages d) (c .if3 .taken))
 
 sub-if4 : tie.Need-sub-if4
 sub-if4 c = known (c .before .before .before .before .before .before) .mark
@@ -71,7 +74,9 @@ returns-4 : tie.Need-returns-4
 returns-4 c =
     let d = c .before .before in
     let a = d .before .before .before .before .before .before .before .before .before .before .args in
-    refuses _ _ 9 (many-crowded (a .log) (now (a .bytes)) (now (a .framed)) (hung (d .before .before .before .before .before)) (d .before .before .before .before .if2 .left) _ (messages d) (c .before .if3 .left) (λ i. d .before .before .before .before .before .before .before .before .shared-slice-known .given i .fits) (c .if4 .taken))
+    refuses _ _ 9 (many-crowded (a .log) (now (a .bytes)) (now (a .framed)) (hung (d .before .before .before .before .before))
+    (d .before .before .before .before .if2 .left) _ (messages d) (c .before .if3 .left)
+    (λ i. d .before .before .before .before .before .before .before .before .shared-slice-known .given i .fits) (c .if4 .taken))
 
 copy-requires : tie.Need-copy-requires
 copy-requires c κs =
@@ -91,7 +96,9 @@ same-length-5 c = search needs
 returns-5 : tie.Need-returns-5
 returns-5 c =
     let a = c .before .before .before .before .before .before .before .before .before .before .args in
-    refuses _ _ _ (not-counted (a .log) (now (a .bytes)) (now (a .framed)) (c .before .n .given .0 .0) (hung (c .before .before .before .before .before)) (c .before .before .before .before .if2 .left) (sym (c .before .before .before .tally .ensures) ∙ c .before .n .given .1))
+    refuses _ _ _ (not-counted (a .log) (now (a .bytes)) (now (a .framed)) (c .before .n .given .0 .0)
+    (hung (c .before .before .before .before .before)) (c .before .before .before .before .if2 .left)
+    (sym (c .before .before .before .tally .ensures) ∙ c .before .n .given .1))
 
 same-length-6 : tie.Need-same-length-6
 same-length-6 c = search needs
@@ -100,7 +107,10 @@ returns-6 : tie.Need-returns-6
 returns-6 c =
     let d = c .before .before .before .before .before .before in
     let a = d .before .before .before .before .before .before .before .before .before .before .args in
-    many-entered (a .log) (now (a .bytes)) (now (a .framed)) (hung (d .before .before .before .before .before)) (d .before .before .before .before .if2 .left) _ (messages d) (c .before .before .before .before .before .if3 .left) (λ i. d .before .before .before .before .before .before .before .before .shared-slice-known .given i .fits) (c .before .before .before .before .if4 .left) _ (c .before .before .copy .ensures)
+    many-entered (a .log) (now (a .bytes)) (now (a .framed)) (hung (d .before .before .before .before .before))
+    (d .before .before .before .before .if2 .left) _ (messages d) (c .before .before .before .before .before .if3 .left)
+    (λ i. d .before .before .before .before .before .before .before .before .shared-slice-known .given i .fits)
+    (c .before .before .before .before .if4 .left) _ (c .before .before .copy .ensures)
 
 pub add-many-spec : {M : Type 1} → statement M
 add-many-spec =

@@ -30,7 +30,8 @@ returns c =
     let d = c .before .before .before .before .before in
     let l = d .before .loop in
     let g = c .before .before .length .given in
-    sym (l .inv .1 ∙ long-turn (now (d .before .before .before .args .s)) (l .at) (l .left) (d .loop-test .taken) (g .0 .0) (g .0 .1 .0) (g .0 .1 .1 .0) (sym (c .before .before .before .before .next .ensures) ∙ g .1) (c .if1 .taken))
+    sym (l .inv .1 ∙ long-turn (now (d .before .before .before .args .s)) (l .at) (l .left) (d .loop-test .taken) (g .0 .0) (g .0 .1 .0)
+    (g .0 .1 .1 .0) (sym (c .before .before .before .before .next .ensures) ∙ g .1) (c .if1 .taken))
 
 sub-left : tie.Need-sub-left Inv-loop μ-loop
 sub-left c = search needs
@@ -43,7 +44,8 @@ loop-again c =
     let d = c .before .before .before .before .before in
     let l = d .before .loop in
     let g = c .before .before .length .given in
-    let t = good-turn (now (d .before .before .before .args .s)) (l .at) (l .left) (d .loop-test .taken) (g .0 .0) (g .0 .1 .0) (g .0 .1 .1 .0) (sym (c .before .before .before .before .next .ensures) ∙ g .1) (c .if1 .left) in
+    let t = good-turn (now (d .before .before .before .args .s)) (l .at) (l .left) (d .loop-test .taken) (g .0 .0) (g .0 .1 .0)
+    (g .0 .1 .1 .0) (sym (c .before .before .before .before .next .ensures) ∙ g .1) (c .if1 .left) in
     (t .0, l .inv .1 ∙ t .1)
 
 enum-told : tie.Need-enum-told Inv-loop μ-loop
@@ -54,7 +56,8 @@ returns-2 c =
     let d = c .before .before .before in
     let l = d .before .loop in
     let g = c .enum-told .given in
-    sym (l .inv .1 ∙ torn-turn (now (d .before .before .before .args .s)) (l .at) (l .left) (d .loop-test .taken) (g .0 .0) (sym (c .before .before .next .ensures) ∙ g .1) (l .inv .0))
+    sym (l .inv .1 ∙ torn-turn (now (d .before .before .before .args .s)) (l .at) (l .left) (d .loop-test .taken) (g .0 .0)
+    (sym (c .before .before .next .ensures) ∙ g .1) (l .inv .0))
 
 returns-3 : tie.Need-returns-3 Inv-loop μ-loop
 returns-3 c =

@@ -17,7 +17,9 @@ kept : (out : List ℕ) (kind header : ℕ) → length (set (set out 0 kind) 1 h
 kept out kind header = simp length-set
 
 -- and the two numbers and the extra bytes after them make the header
-stored : (out a b left extra : List ℕ) (kind session number : ℕ) → a ≡ sets (set (set out 0 kind) 1 (headerSize + length extra)) 2 (bytesOf 8 session) → b ≡ sets a 10 (bytesOf 8 number) → left ≡ sets b 18 (take (length extra) (drop 0 extra)) → left ≡ sets out 0 (headed kind session number extra [])
+stored : (out a b left extra : List ℕ) (kind session number : ℕ) → a ≡ sets (set (set out 0 kind) 1 (headerSize + length extra)) 2
+    (bytesOf 8 session) → b ≡ sets a 10 (bytesOf 8 number) → left ≡ sets b 18 (take (length extra) (drop 0 extra))
+    → left ≡ sets out 0 (headed kind session number extra [])
 stored out a b left extra kind session number e f g =
     rw (g, f, e, take-length) (header-put out kind session number extra)
 
@@ -37,18 +39,24 @@ put8-requires : tie.Need-put8-requires
 put8-requires c κs = simp length-set (omega arith)
 
 put8-requires-2 : tie.Need-put8-requires-2
-put8-requires-2 c κs = let a = c .before .before .before .before .before .before .before .args in omega (arith, kept (now (a .out)) (a .kind) (headerSize + length (now (a .extra))))
+put8-requires-2 c κs = let a = c .before .before .before .before .before .before .before .args in
+    omega (arith, kept (now (a .out)) (a .kind) (headerSize + length (now (a .extra))))
 
 copy-requires : tie.Need-copy-requires
-copy-requires c κs = let a = c .before .before .before .before .before .before .before .before .before .before .before .args in let k = kept (now (a .out)) (a .kind) (headerSize + length (now (a .extra))) in (omega arith, omega arith)
+copy-requires c κs = let a = c .before .before .before .before .before .before .before .before .before .before .before .args in
+    let k = kept (now (a .out)) (a .kind) (headerSize + length (now (a .extra))) in (omega arith, omega arith)
 
 same-length : tie.Need-same-length
-same-length c = let a = c .before .before .before .before .before .before .before .before .before .before .before .before .before .before .args in omega (arith, kept (now (a .out)) (a .kind) (headerSize + length (now (a .extra))))
+same-length c = let a =
+    c .before .before .before .before .before .before .before .before .before .before .before .before .before .before .args in
+    omega (arith, kept (now (a .out)) (a .kind) (headerSize + length (now (a .extra))))
 
 returns : tie.Need-returns
 returns c =
     let a = c .before .before .before .before .before .before .before .before .before .before .before .before .before .before .args in
-    stored (now (a .out)) _ _ _ (now (a .extra)) (a .kind) (a .session .0) (a .number .0) (c .before .before .before .before .before .before .before .before .before .before .put8 .ensures) (c .before .before .before .before .before .before .put82 .ensures) (c .before .before .copy .ensures)
+    stored (now (a .out)) _ _ _ (now (a .extra)) (a .kind) (a .session .0) (a .number .0)
+    (c .before .before .before .before .before .before .before .before .before .before .put8 .ensures)
+    (c .before .before .before .before .before .before .put82 .ensures) (c .before .before .copy .ensures)
 
 pub put-header-spec : {M : Type 1} → statement M
 put-header-spec =

@@ -12,7 +12,9 @@ use Rattle.memx_write.proofs.put_messages.Statement.{statement}
 use Rattle.memx_write.proofs.put_messages.Tie as tie
 
 -- the header, the count and the blocks, stored one after the other
-stored : (out a b left extra blocks : List ℕ) (session first count : ℕ) → let n = headerSize + length extra in a ≡ sets out 0 (headed 2 session first extra []) → b ≡ sets a n (bytesOf 2 count) → left ≡ sets b (n + 2) (take (length blocks) (drop 0 blocks)) → left ≡ sets out 0 (laid session first count extra blocks)
+stored : (out a b left extra blocks : List ℕ) (session first count : ℕ) → let n = headerSize + length extra in
+    a ≡ sets out 0 (headed 2 session first extra []) → b ≡ sets a n (bytesOf 2 count)
+    → left ≡ sets b (n + 2) (take (length blocks) (drop 0 blocks)) → left ≡ sets out 0 (laid session first count extra blocks)
 stored out a b left extra blocks session first count e f g =
     rw (g, f, e, take-length) (laid-put out session first count extra blocks)
 
@@ -36,8 +38,11 @@ same-length c = search needs
 
 returns : tie.Need-returns
 returns c =
-    let a = c .before .before .before .before .before .before .before .before .before .before .before .before .before .before .before .args in
-    stored (now (a .out)) _ _ _ (now (a .extra)) (now (a .blocks)) (a .session .0) (a .first .0) (a .count) (c .before .before .before .before .before .before .before .before .before .before .put-header .ensures) (c .before .before .before .before .before .before .put2 .ensures) (c .before .before .copy .ensures)
+    let a = c .before .before .before .before .before .before .before .before .before .before .before .before .before .before .before .args
+    in
+    stored (now (a .out)) _ _ _ (now (a .extra)) (now (a .blocks)) (a .session .0) (a .first .0) (a .count)
+    (c .before .before .before .before .before .before .before .before .before .before .put-header .ensures)
+    (c .before .before .before .before .before .before .put2 .ensures) (c .before .before .copy .ensures)
 
 pub put-messages-spec : {M : Type 1} → statement M
 put-messages-spec =

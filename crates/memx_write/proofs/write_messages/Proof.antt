@@ -25,19 +25,23 @@ packet c = let a = c .args in laid (a .session .0) (a .first .0) (a .count) (now
 abbrev taking : tie.Start → Packet
 taking c = let a = c .args in messages (a .session .0) (a .first .0) (now (a .extra)) (messagesOf (cut (a .count) (now (a .blocks))))
 
-verdict : (c : tie.Start) → let a = c .args in read (packet c) ≡ checked (headedChecks 2 (now (a .extra)) (2 + length (now (a .blocks))) ++ blocksChecks (a .first .0) (a .count) (now (a .blocks))) (taken (taking c))
+verdict : (c : tie.Start) → let a = c .args in
+    read (packet c) ≡ checked (headedChecks 2 (now (a .extra)) (2 + length (now (a .blocks))) ++ blocksChecks (a .first .0) (a .count)
+    (now (a .blocks))) (taken (taking c))
 verdict c =
     let a = c .args in
     laid-verdict (a .session .0) (a .first .0) (a .count) (now (a .extra)) (now (a .blocks)) (omega arith) (omega arith) (omega arith)
 
 -- what the blocks' test said
-whole : (c : tie.After-exactly) → let a = c .before .before .before .before .before .before .before .args in isWhole (cut (a .count) (now (a .blocks))) ≡ c .exactly .result
+whole : (c : tie.After-exactly) → let a = c .before .before .before .before .before .before .before .args in
+    isWhole (cut (a .count) (now (a .blocks))) ≡ c .exactly .result
 whole c =
     let a = c .before .before .before .before .before .before .before .args in
     fills-says (now (a .blocks)) 0 (a .count) (c .exactly .result) (omega arith) (c .exactly .ensures)
 
 -- past its last test the packet is taken
-passed : (c : tie.Else7) → let s = c .before .before .before .before .before .before .before .before .before .before .before in read (packet s) ≡ taken (taking s)
+passed : (c : tie.Else7) → let s = c .before .before .before .before .before .before .before .before .before .before .before in
+    read (packet s) ≡ taken (taking s)
 passed c =
     let s = c .before .before .before .before .before .before .before .before .before .before .before in
     let e = c .before .before .before .before in
@@ -136,7 +140,8 @@ returns-9 c =
     let s = c .before .before .before .before .before .before .before .before .before .before .before .before .before .before .before .before in
     let a = s .args in
     let l = length-laid (a .session .0) (a .first .0) (a .count) (now (a .extra)) (now (a .blocks)) in
-    has-room _ (packet s) (now (a .out)) (rw (passed (c .before .before .before .before .before))) _ _ (omega arith) (omega arith) (c .before .before .put-messages .ensures)
+    has-room _ (packet s) (now (a .out)) (rw (passed (c .before .before .before .before .before))) _ _ (omega arith) (omega arith)
+    (c .before .before .put-messages .ensures)
 
 pub write-messages-spec : {M : Type 1} → statement M
 write-messages-spec =

@@ -20,14 +20,18 @@ use Rattle.memx_write.proofs.write_news.Tie as tie
 abbrev packet : tie.Start → List ℕ
 packet c = let a = c .args in headed (a .kind) (a .session .0) (a .highest .0) (now (a .extra)) []
 
-verdict : (c : tie.Start) → let a = c .args in read (packet c) ≡ checked (headedChecks (a .kind) (now (a .extra)) 0 ++ restChecks (a .highest .0) 0) (taken (news (a .kind) (a .session .0) (a .highest .0) (now (a .extra))))
+verdict : (c : tie.Start) → let a = c .args in
+    read (packet c) ≡ checked (headedChecks (a .kind) (now (a .extra)) 0 ++ restChecks (a .highest .0) 0)
+    (taken (news (a .kind) (a .session .0) (a .highest .0) (now (a .extra))))
 verdict c =
     let a = c .args in
     let k = c .pre in
-    news-verdict (a .kind) (a .session .0) (a .highest .0) (now (a .extra)) [] (omega arith) (omega arith) (ne-eqb (a .kind) 2 (λ e. omega arith))
+    news-verdict (a .kind) (a .session .0) (a .highest .0) (now (a .extra)) [] (omega arith) (omega arith)
+    (ne-eqb (a .kind) 2 (λ e. omega arith))
 
 -- past its last test the packet is taken
-passed : (c : tie.Else3) → let s = c .before .before .before .before .before .before in read (packet s) ≡ taken (news (s .args .kind) (s .args .session .0) (s .args .highest .0) (now (s .args .extra)))
+passed : (c : tie.Else3) → let s = c .before .before .before .before .before .before in
+    read (packet s) ≡ taken (news (s .args .kind) (s .args .session .0) (s .args .highest .0) (now (s .args .extra)))
 passed c =
     let s = c .before .before .before .before .before .before in
     let a = s .args in
@@ -86,7 +90,8 @@ returns-5 c =
     let s = c .before .before .before .before .before .before .before .before .before .before .before in
     let a = s .args in
     let l = length-headed (a .kind) (a .session .0) (a .highest .0) (now (a .extra)) [] in
-    has-room _ (packet s) (now (a .out)) (rw (passed (c .before .before .before .before .before))) _ _ (omega arith) (omega arith) (c .before .before .put-header .ensures)
+    has-room _ (packet s) (now (a .out)) (rw (passed (c .before .before .before .before .before))) _ _ (omega arith) (omega arith)
+    (c .before .before .put-header .ensures)
 
 pub write-news-spec : {M : Type 1} → statement M
 write-news-spec =

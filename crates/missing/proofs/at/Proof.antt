@@ -5,12 +5,15 @@ use mathlib.Core.Bool.{false}
 use native.Mathlib.Omega.{arith}
 use Rattle.missing.specs.Missing.{isHeld, _to_, missing, _at_}
 use Rattle.missing.proofs.Single.{none-before}
-use Rattle.missing.proofs.Walking.{rest, one-more, the-last, on-to, apart-by, none-left, from-next, held-near, none-missing, at-later}
+use Rattle.missing.proofs.Walking.{rest, one-more, the-last, on-to, apart-by, none-left, from-next, held-near, none-missing}
+use Rattle.missing.proofs.Walking.{at-later}
 use Rattle.missing.proofs.at.Statement.{statement}
 use Rattle.missing.proofs.at.Tie as tie
 
 abbrev Inv-loop : tie.InvT-loop
-Inv-loop held next top place none reach left₀ first₀ left first = ((missing held next top at place) ≡ (rest (isHeld held next) next (top - next) first at left)) × (first ≤ 32) × (isHeld held next (next + first) ≡ false)
+Inv-loop held next top place none reach left₀ first₀ left first =
+    ((missing held next top at place) ≡ (rest (isHeld held next) next (top - next) first at left)) × (first ≤ 32)
+    × (isHeld held next (next + first) ≡ false)
 
 abbrev μ-loop : tie.MeasureT-loop
 μ-loop held next top place none reach left₀ first₀ left first = 32 - first
@@ -63,7 +66,8 @@ onward : (c : tie.After-past-held Inv-loop μ-loop) → c .before .before .befor
 onward c =
     let a = c .before .before .before .before .before .before .before .args in
     let l = c .before .before .before .last-of in
-    apart-by (isHeld (a .held) (a .next)) (a .next) (a .top - a .next) (c .before .before .before .before .before .loop .first) (l .result) (l .ensures) (c .past-held .result) (c .past-held .ensures) (omega arith)
+    apart-by (isHeld (a .held) (a .next)) (a .next) (a .top - a .next) (c .before .before .before .before .before .loop .first) (l .result)
+    (l .ensures) (c .past-held .result) (c .past-held .ensures) (omega arith)
 
 add-past-held : tie.Need-add-past-held Inv-loop μ-loop
 add-past-held c =
@@ -87,8 +91,12 @@ loop-again c =
     let p = c .before .before .before .before .before .loop in
     let l = c .before .before .before .last-of in
     let g = c .past-held in
-    let e = on-to so (a .next) (a .top - a .next) (p .first) (l .result) (l .ensures) (g .result) (g .ensures) in
-    (rw (p .inv .0, e) (at-later ((a .next + p .first) to (a .next + l .result)) (rest so (a .next) (a .top - a .next) (g .result)) (p .left) (c .before .before .if2 .left)), g .ensures .near, g .ensures .free)
+    let e = on-to so (a .next) (a .top - a .next) (p .first) (l .result) (l .ensures) (g .result) (g .ensures) in (
+      rw (p .inv .0, e) (at-later ((a .next + p .first) to (a .next + l .result)) (rest so (a .next) (a .top - a .next) (g .result))
+          (p .left) (c .before .before .if2 .left)),
+      g .ensures .near,
+      g .ensures .free,
+    )
 
 returns-4 : tie.Need-returns-4 Inv-loop μ-loop
 returns-4 c =

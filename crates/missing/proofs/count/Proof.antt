@@ -11,7 +11,9 @@ use Rattle.missing.proofs.count.Statement.{statement}
 use Rattle.missing.proofs.count.Tie as tie
 
 abbrev Inv-loop : tie.InvT-loop
-Inv-loop held next top reach ranges₀ first₀ ranges first = (length (missing held next top) ≡ ranges + length (rest (isHeld held next) next (top - next) first)) × (2 * ranges ≤ first) × (first ≤ 32) × (isHeld held next (next + first) ≡ false)
+Inv-loop held next top reach ranges₀ first₀ ranges first =
+    (length (missing held next top) ≡ ranges + length (rest (isHeld held next) next (top - next) first)) × (2 * ranges ≤ first)
+    × (first ≤ 32) × (isHeld held next (next + first) ≡ false)
 
 abbrev μ-loop : tie.MeasureT-loop
 μ-loop held next top reach ranges₀ first₀ ranges first = 32 - first
@@ -23,8 +25,13 @@ returns c =
 
 loop-holds : tie.Need-loop-holds Inv-loop μ-loop
 loop-holds c =
-    let a = c .before .args in
-    (omega (arith, ap length (from-next (a .held) (a .next) (a .top) (c .if1 .left))), omega arith, omega arith, none-before (a .held) (a .next) (a .next + 0) (omega arith))
+    let a = c .before .args in (
+      omega (arith, ap length (from-next (a .held) (a .next) (a .top) (c .if1 .left))),
+      omega arith,
+      omega arith,
+      none-before (a .held)
+          (a .next) (a .next + 0) (omega arith),
+    )
 
 add-ranges : tie.Need-add-ranges Inv-loop μ-loop
 add-ranges c = search needs
@@ -37,7 +44,12 @@ returns-2 c =
     let a = c .before .before .before .before .before .args in
     let p = c .before .before .before .loop in
     let l = c .before .last-of in
-    omega (arith, p .inv .0, ap length (the-last (isHeld (a .held) (a .next)) (a .next) (a .top - a .next) (p .first) (l .result) (l .ensures) (c .if2 .taken)))
+    omega (
+      arith,
+      p .inv .0,
+      ap length (the-last (isHeld (a .held) (a .next)) (a .next) (a .top - a .next) (p .first) (l .result)
+          (l .ensures) (c .if2 .taken)),
+    )
 
 -- a range that ends before the top ends before a held message, and the next one begins behind that
 near : (c : tie.Else2 Inv-loop μ-loop) → c .before .last-of .result + 1 ≤ 31
@@ -50,7 +62,8 @@ onward : (c : tie.After-past-held Inv-loop μ-loop) → c .before .before .last-
 onward c =
     let a = c .before .before .before .before .before .before .args in
     let l = c .before .before .last-of in
-    apart-by (isHeld (a .held) (a .next)) (a .next) (a .top - a .next) (c .before .before .before .before .loop .first) (l .result) (l .ensures) (c .past-held .result) (c .past-held .ensures) (omega arith)
+    apart-by (isHeld (a .held) (a .next)) (a .next) (a .top - a .next) (c .before .before .before .before .loop .first) (l .result)
+    (l .ensures) (c .past-held .result) (c .past-held .ensures) (omega arith)
 
 add-past-held : tie.Need-add-past-held Inv-loop μ-loop
 add-past-held c =
@@ -81,7 +94,12 @@ returns-3 : tie.Need-returns-3 Inv-loop μ-loop
 returns-3 c =
     let a = c .before .before .before .args in
     let p = c .before .loop in
-    omega (arith, p .inv .0, ap length (none-left (isHeld (a .held) (a .next)) (a .next) (a .top - a .next) (p .first) (c .loop-test .left)))
+    omega (
+      arith,
+      p .inv .0,
+      ap length (none-left (isHeld (a .held) (a .next)) (a .next) (a .top - a .next) (p .first)
+          (c .loop-test .left)),
+    )
 
 pub count-spec : {M : Type 1} → statement M
 count-spec =

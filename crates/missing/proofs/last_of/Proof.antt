@@ -10,7 +10,8 @@ use Rattle.missing.proofs.last_of.Statement.{statement}
 use Rattle.missing.proofs.last_of.Tie as tie
 
 abbrev Inv-loop : tie.InvT-loop
-Inv-loop held next reach first last₀ last = (first ≤ last) × (last ≤ reach) × Runs (isHeld held next) false (next + first) (next + (last + 1))
+Inv-loop held next reach first last₀ last = (first ≤ last) × (last ≤ reach) × Runs (isHeld held next) false (next + first)
+    (next + (last + 1))
 
 abbrev μ-loop : tie.MeasureT-loop
 μ-loop held next reach first last₀ last = 31 - last
@@ -18,7 +19,12 @@ abbrev μ-loop : tie.MeasureT-loop
 returns : tie.Need-returns Inv-loop μ-loop
 returns c =
     let a = c .before .args in
-    record { after = c .before .pre .0; within = omega arith; gap = λ k _ _. rw (c .if1 .taken) (none-held (a .next) k); ends = λ l. absurd (omega arith) }
+    record {
+      after = c .before .pre .0;
+      within = omega arith;
+      gap = λ k _ _. rw (c .if1 .taken) (none-held (a .next) k);
+      ends = λ l. absurd (omega arith);
+    }
 
 loop-holds : tie.Need-loop-holds Inv-loop μ-loop
 loop-holds c =
@@ -50,15 +56,26 @@ loop-less c = search needs
 loop-again : tie.Need-loop-again Inv-loop μ-loop
 loop-again c =
     let a = c .before .before .before .before .before .before .args in
-    let l = c .before .before .before .before .loop in
-    (omega arith, omega arith, more-run (isHeld (a .held) (a .next)) (a .next + a .first) (a .next) (l .last + 1) false (l .inv .2) (sym (c .before .is-held .ensures) ∙ c .if3 .left))
+    let l = c .before .before .before .before .loop in (
+      omega arith,
+      omega arith,
+      more-run (isHeld (a .held) (a .next)) (a .next + a .first) (a .next) (l .last + 1) false (l .inv .2)
+          (sym (c .before .is-held .ensures) ∙ c .if3 .left),
+    )
 
 returns-4 : tie.Need-returns-4 Inv-loop μ-loop
 returns-4 c =
     let a = c .before .before .before .args in
     let l = c .before .loop in
-    let far : Runs (isHeld (a .held) (a .next)) false (a .next + (l .last + 1)) (a .next + (a .reach + 1)) = λ k f g. none-beyond (a .held) (a .next) k (omega arith) in
-    record { after = omega arith; within = omega arith; gap = join-runs (isHeld (a .held) (a .next)) (a .next + a .first) (a .next + (l .last + 1)) (a .next + (a .reach + 1)) false (l .inv .2) far; ends = λ l. absurd (omega arith) }
+    let far : Runs (isHeld (a .held) (a .next)) false (a .next + (l .last + 1)) (a .next + (a .reach + 1)) = λ k f g. none-beyond (a .held)
+    (a .next) k (omega arith) in
+    record {
+      after = omega arith;
+      within = omega arith;
+      gap = join-runs (isHeld (a .held) (a .next)) (a .next + a .first) (a .next + (l .last + 1)) (a .next + (a .reach + 1)) false
+          (l .inv .2) far;
+      ends = λ l. absurd (omega arith);
+    }
 
 pub last-of-spec : {M : Type 1} → statement M
 last-of-spec =

@@ -21,7 +21,8 @@ loop-holds c = (omega arith, c .pre, λ k f g. absurd (omega arith))
 is-held-requires : tie.Need-is-held-requires Inv-loop μ-loop
 is-held-requires c κs = search needs
 
-held-here : (c : tie.Then1 Inv-loop μ-loop) → c .before .before .before .args .next + c .before .before .loop .past ≤ c .before .before .before .args .next + 31
+held-here : (c : tie.Then1 Inv-loop μ-loop)
+    → c .before .before .before .args .next + c .before .before .loop .past ≤ c .before .before .before .args .next + 31
 held-here c =
     let a = c .before .before .before .args in
     held-within (a .held) (a .next) (a .next + c .before .before .loop .past) (sym (c .before .is-held .ensures) ∙ c .if1 .taken) .1
@@ -40,8 +41,12 @@ loop-again : tie.Need-loop-again Inv-loop μ-loop
 loop-again c =
     let a = c .before .before .before .args in
     let l = c .before .before .loop in
-    let h = held-here c in
-    (omega arith, omega arith, more-run (isHeld (a .held) (a .next)) (a .next + a .ahead) (a .next) (l .past) true (l .inv .2) (sym (c .before .is-held .ensures) ∙ c .if1 .taken))
+    let h = held-here c in (
+      omega arith,
+      omega arith,
+      more-run (isHeld (a .held) (a .next)) (a .next + a .ahead) (a .next) (l .past) true (l .inv .2)
+          (sym (c .before .is-held .ensures) ∙ c .if1 .taken),
+    )
 
 returns : tie.Need-returns Inv-loop μ-loop
 returns c =

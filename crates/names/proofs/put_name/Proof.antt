@@ -19,7 +19,8 @@ same-length c = search needs
 returns : tie.Need-returns
 returns c =
     let a = c .before .before .before .before .before .before .before .before .before .args in
-    pair-puts 2 8 (now (a .d)) _ _ (a .at) (a .n .0) (a .n .1) (c .before .before .before .before .before .before .put2 .ensures) (c .before .before .put8 .ensures)
+    pair-puts 2 8 (now (a .d)) _ _ (a .at) (a .n .0) (a .n .1) (c .before .before .before .before .before .before .put2 .ensures)
+    (c .before .before .put8 .ensures)
 
 pub put-name-spec : {M : Type 1} → statement M
 put-name-spec = tie.close (tie.spec put2-requires add-put8 put8-requires same-length returns)

@@ -42,7 +42,9 @@ same-length-3 c = search needs
 
 returns-3 : tie.Need-returns-3
 returns-3 c =
-    all-dropped _ _ _ _ (held (c .before .before .before .before .before .hangs-together .ensures) (c .before .before .before .before .if1 .left)) (c .before .before .before .if2 .left) (c .before .before .if3 .taken) _ (c .before .linefeed .ensures .0) (c .if4 .taken)
+    all-dropped _ _ _ _ (held (c .before .before .before .before .before .hangs-together .ensures)
+    (c .before .before .before .before .if1 .left)) (c .before .before .before .if2 .left) (c .before .before .if3 .taken) _
+    (c .before .linefeed .ensures .0) (c .if4 .taken)
 
 add-from : tie.Need-add-from
 add-from c = search needs
@@ -52,16 +54,24 @@ record FromThere (pieces : Pieces) (buffer piece : List ℕ) (place from : ℕ) 
   inside : from ≤ length piece
   same : first (stateOf pieces buffer) (drop place piece) ≡ first (holding (pieces .next .0) (take (pieces .kept) buffer)) (drop from piece)
 
-hung : (c : tie.Joined3) → let a = c .before .before .before .before .before .before .before .args in hangs (a .pieces) (now (a .buffer)) ≡ true
+hung : (c : tie.Joined3) → let a = c .before .before .before .before .before .before .before .args in
+    hangs (a .pieces) (now (a .buffer)) ≡ true
 hung c = held (c .before .before .before .hangs-together .ensures) (c .before .before .if1 .left)
 
-from-there : (c : tie.Joined3) → let a = c .before .before .before .before .before .before .before .args in FromThere (a .pieces) (now (a .buffer)) (now (a .piece)) (a .place) (c .if3 .from)
+from-there : (c : tie.Joined3) → let a = c .before .before .before .before .before .before .before .args in
+    FromThere (a .pieces) (now (a .buffer)) (now (a .piece)) (a .place) (c .if3 .from)
 from-there c =
     let a = c .before .before .before .before .before .before .before .args in
     let d = dropped (a .pieces) (now (a .buffer)) (now (a .piece)) (a .place) (hung c) (c .before .if2 .left) in
     ⊎-elim
-    (λ q. record { inside = omega (arith, q .1 .ensures .1); same = rw (q .3) (d (q .0 .taken) (q .1 .result) (q .1 .ensures .0) (omega (arith, q .1 .ensures .1, q .2 .left))) })
-    (λ q. record { inside = omega arith; same = rw (q .1) (kept-still (a .pieces) (now (a .buffer)) (now (a .piece)) (a .place) (hung c) (c .before .if2 .left) (q .0 .left)) })
+    (λ q. record {
+      inside = omega (arith, q .1 .ensures .1);
+      same = rw (q .3) (d (q .0 .taken) (q .1 .result) (q .1 .ensures .0) (omega (arith, q .1 .ensures .1, q .2 .left)));
+    })
+    (λ q. record {
+      inside = omega arith;
+      same = rw (q .1) (kept-still (a .pieces) (now (a .buffer)) (now (a .piece)) (a .place) (hung c) (c .before .if2 .left) (q .0 .left));
+    })
     (c .if3 .came)
 
 gather-requires : tie.Need-gather-requires
@@ -76,7 +86,12 @@ same-length-4 c = search needs
 returns-4 : tie.Need-returns-4
 returns-4 c =
     let a = c .before .before .before .before .before .before .before .before .before .before .before .args in
-    rw (goes-on (a .pieces) (now (a .buffer)) (now (a .piece)) (a .place) (hung (c .before .before .before .before)) (c .before .before .before .before .before .if2 .left), from-there (c .before .before .before .before) .same) (c .before .before .gather .ensures)
+    rw (
+      goes-on (a .pieces) (now (a .buffer)) (now (a .piece)) (a .place) (hung (c .before .before .before .before))
+          (c .before .before .before .before .before .if2 .left),
+      from-there (c .before .before .before .before) .same,
+    )
+    (c .before .before .gather .ensures)
 
 pub take-spec : {M : Type 1} → statement M
 take-spec =

@@ -53,7 +53,8 @@ returns c =
     let d = p .before .before in
     let a = d .before .before .args in
     let w = number-laid _ _ _ 11 (a .number .0) (d .characters .ensures) (k .copy .ensures) in
-    let e = accept-laid (replicate 32 0) _ _ (nameBytes (a .session)) (a .number .0) refl (length-nameBytes (a .session)) (p .put-name .ensures) w in
+    let e = accept-laid (replicate 32 0) _ _ (nameBytes (a .session)) (a .number .0) refl (length-nameBytes (a .session))
+    (p .put-name .ensures) w in
     settled-by (ap (λ (packet : List ℕ). sent packet (length (now (a .out)))) e) (s .write-packet .ensures)
 
 pub write-accept-spec : {M : Type 1} → statement M

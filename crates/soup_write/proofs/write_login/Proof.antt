@@ -67,7 +67,9 @@ returns c =
     let d = u .before .before in
     let a = d .before .before .args in
     let w = number-laid _ _ _ 27 (a .number .0) (d .characters .ensures) (k .copy .ensures) in
-    let e = login-laid (replicate 48 0) _ _ _ _ (userBytes (a .user)) (nameBytes (a .password .0)) (nameBytes (a .session)) (a .number .0) refl (length-userBytes (a .user)) (length-nameBytes (a .password .0)) (length-nameBytes (a .session)) (u .put-user .ensures) (m .put-name .ensures) (n .put-name2 .ensures) w in
+    let e = login-laid (replicate 48 0) _ _ _ _ (userBytes (a .user)) (nameBytes (a .password .0)) (nameBytes (a .session)) (a .number .0)
+    refl (length-userBytes (a .user)) (length-nameBytes (a .password .0)) (length-nameBytes (a .session)) (u .put-user .ensures)
+    (m .put-name .ensures) (n .put-name2 .ensures) w in
     settled-by (ap (λ (packet : List ℕ). sent packet (length (now (a .out)))) e) (s .write-packet .ensures)
 
 pub write-login-spec : {M : Type 1} → statement M

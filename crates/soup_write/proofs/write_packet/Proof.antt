@@ -21,12 +21,16 @@ returns : tie.Need-returns
 returns c =
     let m = c .before .before in
     let a = m .before .before .before .before .args in
-    let e = refused-by (read (now (a .packet))) (c .before .said .given .0 .0) (sym (m .before .read .ensures) ∙ c .before .said .given .1) in
+    let e = refused-by (read (now (a .packet))) (c .before .said .given .0 .0) (sym (m .before .read .ensures) ∙ c .before .said .given .1)
+    in
     refuses _ (now (a .out)) _ (rw e)
 
 -- the reader has taken the packet
-room-decides : (c : tie.At-match-keys2) → sent (now (c .before .before .before .before .args .packet)) (length (now (c .before .before .before .before .args .out))) ≡ within (length (now (c .before .before .before .before .args .out))) (now (c .before .before .before .before .args .packet))
-room-decides c = taken-by (read (now (c .before .before .before .before .args .packet))) (c .before .read .result) _ _ (c .before .read .ensures) (c .match .keys2)
+room-decides : (c : tie.At-match-keys2) → sent (now (c .before .before .before .before .args .packet))
+    (length (now (c .before .before .before .before .args .out))) ≡ within (length (now (c .before .before .before .before .args .out)))
+    (now (c .before .before .before .before .args .packet))
+room-decides c = taken-by (read (now (c .before .before .before .before .args .packet))) (c .before .read .result) _ _
+    (c .before .read .ensures) (c .match .keys2)
 
 returns-2 : tie.Need-returns-2
 returns-2 c =
@@ -44,7 +48,8 @@ returns-3 c =
     let b = c .before .before in
     let t = b .before .before in
     let a = t .before .before .before .before .before .args in
-    has-room _ (now (a .packet)) (now (a .out)) (room-decides (t .before)) _ _ refl (t .if1 .left) (rw (← take-length (now (a .packet))) (b .copy .ensures))
+    has-room _ (now (a .packet)) (now (a .out)) (room-decides (t .before)) _ _ refl (t .if1 .left)
+    (rw (← take-length (now (a .packet))) (b .copy .ensures))
 
 pub write-packet-spec : {M : Type 1} → statement M
 write-packet-spec =

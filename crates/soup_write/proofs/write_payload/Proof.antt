@@ -29,15 +29,20 @@ returns-2 c =
     let b = c .before in
     let s = b .before .before .before .before in
     let a = s .args in
-    refuses _ (now (a .out)) 8 (payload-decides (a .kind) (now (a .payload)) (length (now (a .out))) (s .pre) (b .before .if1 .left) ∙ rw (← b .is-unbroken .ensures, not-true (b .is-unbroken .result) (c .if2 .taken)))
+    refuses _ (now (a .out)) 8 (payload-decides (a .kind) (now (a .payload)) (length (now (a .out))) (s .pre) (b .before .if1 .left)
+    ∙ rw (← b .is-unbroken .ensures, not-true (b .is-unbroken .result) (c .if2 .taken)))
 
 -- the payload is lawful
-room-decides : (c : tie.Else2) → sent (line (c .before .before .before .before .before .args .kind) (now (c .before .before .before .before .before .args .payload))) (length (now (c .before .before .before .before .before .args .out))) ≡ within (length (now (c .before .before .before .before .before .args .out))) (line (c .before .before .before .before .before .args .kind) (now (c .before .before .before .before .before .args .payload)))
+room-decides : (c : tie.Else2) → sent (line (c .before .before .before .before .before .args .kind)
+    (now (c .before .before .before .before .before .args .payload))) (length (now (c .before .before .before .before .before .args .out)))
+    ≡ within (length (now (c .before .before .before .before .before .args .out)))
+    (line (c .before .before .before .before .before .args .kind) (now (c .before .before .before .before .before .args .payload)))
 room-decides c =
     let b = c .before in
     let s = b .before .before .before .before in
     let a = s .args in
-    payload-decides (a .kind) (now (a .payload)) (length (now (a .out))) (s .pre) (b .before .if1 .left) ∙ rw (← b .is-unbroken .ensures, not-false (b .is-unbroken .result) (c .if2 .left))
+    payload-decides (a .kind) (now (a .payload)) (length (now (a .out))) (s .pre) (b .before .if1 .left)
+    ∙ rw (← b .is-unbroken .ensures, not-false (b .is-unbroken .result) (c .if2 .left))
 
 add-if3 : tie.Need-add-if3
 add-if3 c = search needs
@@ -55,7 +60,8 @@ copy-requires : tie.Need-copy-requires
 copy-requires c κs = simp length-set (omega arith)
 
 -- the output keeps its length
-kept : (c : tie.After-copy) → length (c .copy .last .0) ≡ length (now (c .before .before .before .before .before .before .before .before .args .out))
+kept : (c : tie.After-copy) → length (c .copy .last .0) ≡ length
+    (now (c .before .before .before .before .before .before .before .before .args .out))
 kept c =
     let a = c .before .before .before .before .before .before .before .before .args in
     c .copy .kept .0 ∙ length-set (now (a .out)) 0 (a .kind)
@@ -79,7 +85,8 @@ returns-4 c =
     let a = t .before .before .before .before .before .before .args in
     let s = now (a .payload) in
     let l = length-line (a .kind) s in
-    has-room _ (line (a .kind) s) (now (a .out)) (room-decides (t .before)) _ (length s + 2) (omega arith) (omega (arith, t .if3 .left)) (rw (b .copy .ensures, take-length s) (stored-line (now (a .out)) s (a .kind)))
+    has-room _ (line (a .kind) s) (now (a .out)) (room-decides (t .before)) _ (length s + 2) (omega arith) (omega (arith, t .if3 .left))
+    (rw (b .copy .ensures, take-length s) (stored-line (now (a .out)) s (a .kind)))
 
 pub write-payload-spec : {M : Type 1} → statement M
 write-payload-spec =

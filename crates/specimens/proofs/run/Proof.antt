@@ -7,7 +7,8 @@ use Rattle.specimens.proofs.run.Statement.{statement}
 use Rattle.specimens.proofs.run.Tie as tie
 
 abbrev Inv-loop : tie.InvT-loop
-Inv-loop book lent₀ area₀ buffer₀ desk₀ at₀ lent area buffer desk at = (at ≤ length book) × (length book < 18446744073709551616) × (length lent ≡ length lent₀) × (length area ≡ length area₀) × (length buffer ≡ length buffer₀)
+Inv-loop book lent₀ area₀ buffer₀ desk₀ at₀ lent area buffer desk at = (at ≤ length book) × (length book < 18446744073709551616)
+    × (length lent ≡ length lent₀) × (length area ≡ length area₀) × (length buffer ≡ length buffer₀)
 
 abbrev μ-loop : tie.MeasureT-loop
 μ-loop book lent₀ area₀ buffer₀ desk₀ at₀ lent area buffer desk at = length book - at

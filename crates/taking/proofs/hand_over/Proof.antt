@@ -10,8 +10,8 @@ use Rattle.record.specs.declared.Session.{Session}
 use Rattle.record.specs.declared.Session.the-variants.{Ufo, Memx}
 use Rattle.record.proofs.Hanging.{hanging}
 use Rattle.held.proofs.Hangs.{freed-sound}
-use Rattle.hearing.specs.Hearing.{blocksFrom}
-use Rattle.taking.specs.Steps.{Handed}
+use Rattle.reports.specs.Reports.{blocksFrom}
+use Rattle.taking.specs.Handing.{Handed}
 use Rattle.taking.proofs.HandingOver.{counted, hands-others, room, tells-clash, tells-refusal, tells-blocks, released-few}
 use borrow.Author.Needs.{needs}
 use Rattle.taking.proofs.hand_over.Statement.{statement}
@@ -25,26 +25,36 @@ highest-fits (Memx id) = omega arith
 bytes : (c : tie.After-contradicts) → Bytes (now (c .before .before .before .before .before .args .datagram))
 bytes c i = c .before .before .before .shared-slice-known2 .given i .fits
 
-many : (c : tie.After-contradicts) → let a = c .before .before .before .before .before .args in length (blocksFrom (now (a .datagram)) (a .place) (a .count)) ≡ a .count
+many : (c : tie.After-contradicts) → let a = c .before .before .before .before .before .args in
+    length (blocksFrom (now (a .datagram)) (a .place) (a .count)) ≡ a .count
 many c =
     let a = c .before .before .before .before .before .args in
     counted (now (a .datagram)) (a .place) (a .first) (a .count) (bytes c) (c .before .before .before .before .before .pre .2)
 
 -- what was delivered are the blocks of the others, and those that are held behind them
-given-so : (c : tie.After-deliver) → let a = c .before .before .before .before .before .before .before .before .before .before .before .args in Handed (room (a .kept) (now (a .area)) (a .first) (a .count) (blocksFrom (now (a .datagram)) (a .place) (a .count)) (many (c .before .before .before .before .before .before)) (now (a .out))) (now (a .out)) (c .deliver .result) (c .deliver .last .1 .1 .1 .1 .1 .1 .0)
+given-so : (c : tie.After-deliver) → let a =
+    c .before .before .before .before .before .before .before .before .before .before .before .args in
+    Handed (room (a .kept) (now (a .area)) (a .first) (a .count) (blocksFrom (now (a .datagram)) (a .place) (a .count))
+    (many (c .before .before .before .before .before .before)) (now (a .out))) (now (a .out)) (c .deliver .result)
+    (c .deliver .last .1 .1 .1 .1 .1 .1 .0)
 given-so c =
     let g = c .before .before .before .before .before .before in
     let a = g .before .before .before .before .before .args in
     let p = g .before .before .before .before .before .pre in
     let h = rw (c .before .before .before .free-from .ensures) at (c .deliver .ensures) in
-    rw (hands-others (now (a .datagram)) (a .place) (a .first) (a .count) (bytes g) (p .2) (a .kept .next .0 - a .first) _ (now (a .area)) (a .first + a .count) (length (now (a .out))) (omega arith) (freed-sound (a .kept .held) (now (a .area)) (a .first + a .count - a .kept .next .0) (a .kept .next .0) (p .1))) at h
+    rw (hands-others (now (a .datagram)) (a .place) (a .first) (a .count) (bytes g) (p .2) (a .kept .next .0 - a .first) _ (now (a .area))
+    (a .first + a .count) (length (now (a .out))) (omega arith)
+    (freed-sound (a .kept .held) (now (a .area)) (a .first + a .count - a .kept .next .0) (a .kept .next .0) (p .1))) at h
 
-reaches : (c : tie.After-deliver) (n k : ℕ) → c .deliver .result ≡ gives.Bytes n k → let a = c .before .before .before .before .before .before .before .before .before .before .before .args in (k ≤ 31) × (a .first + a .count + k ≤ max (a .kept .top .0) (a .first + a .count - 1) + 1)
+reaches : (c : tie.After-deliver) (n k : ℕ) → c .deliver .result ≡ gives.Bytes n k
+    → let a = c .before .before .before .before .before .before .before .before .before .before .before .args in (k ≤ 31)
+    × (a .first + a .count + k ≤ max (a .kept .top .0) (a .first + a .count - 1) + 1)
 reaches c n k e =
     let g = c .before .before .before .before .before .before in
     let a = g .before .before .before .before .before .args in
     let p = g .before .before .before .before .before .pre in
-    released-few (a .kept) (now (a .area)) (a .first) (a .count) (blocksFrom (now (a .datagram)) (a .place) (a .count)) (many g) (now (a .out)) (p .0) (p .3) (p .4) n k _ (rw e at (given-so c))
+    released-few (a .kept) (now (a .area)) (a .first) (a .count) (blocksFrom (now (a .datagram)) (a .place) (a .count)) (many g)
+    (now (a .out)) (p .0) (p .3) (p .4) n k _ (rw e at (given-so c))
 
 add-past : tie.Need-add-past
 add-past c = search needs
@@ -59,7 +69,8 @@ returns : tie.Need-returns
 returns c =
     let g = c .before in
     let a = g .before .before .before .before .before .args in
-    tells-clash (a .kept) (now (a .area)) (a .first) (a .count) (blocksFrom (now (a .datagram)) (a .place) (a .count)) (many g) (now (a .out)) (sym (g .contradicts .ensures) ∙ c .if1 .taken)
+    tells-clash (a .kept) (now (a .area)) (a .first) (a .count) (blocksFrom (now (a .datagram)) (a .place) (a .count)) (many g)
+    (now (a .out)) (sym (g .contradicts .ensures) ∙ c .if1 .taken)
 
 sub-free-from : tie.Need-sub-free-from
 sub-free-from c = search needs
@@ -124,7 +135,9 @@ returns-2 c =
     let g = d .before .before .before .before .before .before in
     let a = g .before .before .before .before .before .args in
     let p = g .before .before .before .before .before .pre in
-    tells-refusal (a .kept) (now (a .area)) (a .first) (a .count) (blocksFrom (now (a .datagram)) (a .place) (a .count)) (many g) (now (a .out)) (p .3) (p .4) (sym (g .contradicts .ensures) ∙ d .before .before .before .before .before .if1 .left) _ _ (rw (c .before .given .given .1) at (given-so d))
+    tells-refusal (a .kept) (now (a .area)) (a .first) (a .count) (blocksFrom (now (a .datagram)) (a .place) (a .count)) (many g)
+    (now (a .out)) (p .3) (p .4) (sym (g .contradicts .ensures) ∙ d .before .before .before .before .before .if1 .left) _ _
+    (rw (c .before .given .given .1) at (given-so d))
 
 same-length-2 : tie.Need-same-length-2
 same-length-2 c = search needs
@@ -135,7 +148,10 @@ returns-3 c =
     let g = d .before .before .before .before .before .before in
     let a = g .before .before .before .before .before .args in
     let p = g .before .before .before .before .before .pre in
-    tells-blocks (a .kept) (now (a .area)) (a .first) (a .count) (blocksFrom (now (a .datagram)) (a .place) (a .count)) (many g) (now (a .out)) (p .3) (p .4) (sym (g .contradicts .ensures) ∙ d .before .before .before .before .before .if1 .left) _ _ _ _ _ refl (c .tell .ensures ∙ rw (c .before .free-from2 .ensures, d .before .before .before .free-from .ensures)) (rw (c .before .before .before .before .given2 .given .1) at (given-so d))
+    tells-blocks (a .kept) (now (a .area)) (a .first) (a .count) (blocksFrom (now (a .datagram)) (a .place) (a .count)) (many g)
+    (now (a .out)) (p .3) (p .4) (sym (g .contradicts .ensures) ∙ d .before .before .before .before .before .if1 .left) _ _ _ _ _ refl
+    (c .tell .ensures ∙ rw (c .before .free-from2 .ensures, d .before .before .before .free-from .ensures))
+    (rw (c .before .before .before .before .given2 .given .1) at (given-so d))
 
 pub hand-over-spec : {M : Type 1} → statement M
 hand-over-spec =

@@ -7,7 +7,7 @@ use Rattle.wire.specs.Fields.{Bytes}
 use Rattle.wire.specs.Reply.{within, Settled}
 use Rattle.wire.proofs.Settling.{settled-by}
 use Rattle.blocks.specs.Blocks.{frames}
-use Rattle.hearing.specs.Hearing.{blocksFrom}
+use Rattle.reports.specs.Reports.{blocksFrom}
 use Rattle.taking.proofs.HandingOver.{counted, hands-own, tells-clash, own-refusal, own-blocks}
 use borrow.Author.Needs.{needs}
 use Rattle.taking.proofs.hand_over_own.Statement.{statement}
@@ -16,18 +16,23 @@ use Rattle.taking.proofs.hand_over_own.Tie as tie
 bytes : (c : tie.After-contradicts) → Bytes (now (c .before .before .before .before .before .args .datagram))
 bytes c i = c .before .before .before .shared-slice-known2 .given i .fits
 
-many : (c : tie.After-contradicts) → let a = c .before .before .before .before .before .args in length (blocksFrom (now (a .datagram)) (a .place) (a .count)) ≡ a .count
+many : (c : tie.After-contradicts) → let a = c .before .before .before .before .before .args in
+    length (blocksFrom (now (a .datagram)) (a .place) (a .count)) ≡ a .count
 many c =
     let a = c .before .before .before .before .before .args in
     counted (now (a .datagram)) (a .place) (a .first) (a .count) (bytes c) (c .before .before .before .before .before .pre .1)
 
 -- what was delivered are the blocks of the others
-settled : (c : tie.After-deliver-own) → let a = c .before .before .before .before .before .before .before .before .before .args in Settled (within (length (now (a .out))) (frames (drop (a .kept .next .0 - a .first) (blocksFrom (now (a .datagram)) (a .place) (a .count))))) (now (a .out)) (c .deliver-own .result) (c .deliver-own .last .1 .1 .1 .0)
+settled : (c : tie.After-deliver-own) → let a = c .before .before .before .before .before .before .before .before .before .args in
+    Settled (within (length (now (a .out)))
+    (frames (drop (a .kept .next .0 - a .first) (blocksFrom (now (a .datagram)) (a .place) (a .count))))) (now (a .out))
+    (c .deliver-own .result) (c .deliver-own .last .1 .1 .1 .0)
 settled c =
     let g = c .before .before .before .before in
     let a = g .before .before .before .before .before .args in
     let p = g .before .before .before .before .before .pre in
-    settled-by (hands-own (now (a .datagram)) (a .place) (a .first) (a .count) (bytes g) (p .1) (a .kept .next .0 - a .first) (length (now (a .out))) (omega arith)) (c .deliver-own .ensures)
+    settled-by (hands-own (now (a .datagram)) (a .place) (a .first) (a .count) (bytes g) (p .1) (a .kept .next .0 - a .first)
+    (length (now (a .out))) (omega arith)) (c .deliver-own .ensures)
 
 add-past : tie.Need-add-past
 add-past c = search needs
@@ -42,7 +47,8 @@ returns : tie.Need-returns
 returns c =
     let g = c .before in
     let a = g .before .before .before .before .before .args in
-    tells-clash (a .kept) (now (a .area)) (a .first) (a .count) (blocksFrom (now (a .datagram)) (a .place) (a .count)) (many g) (now (a .out)) (sym (g .contradicts .ensures) ∙ c .if1 .taken)
+    tells-clash (a .kept) (now (a .area)) (a .first) (a .count) (blocksFrom (now (a .datagram)) (a .place) (a .count)) (many g)
+    (now (a .out)) (sym (g .contradicts .ensures) ∙ c .if1 .taken)
 
 sub-deliver-own : tie.Need-sub-deliver-own
 sub-deliver-own c = search needs
@@ -77,7 +83,9 @@ returns-2 c =
     let g = d .before .before .before .before in
     let a = g .before .before .before .before .before .args in
     let p = g .before .before .before .before .before .pre in
-    own-refusal (a .kept) (now (a .area)) (a .first) (a .count) (blocksFrom (now (a .datagram)) (a .place) (a .count)) (many g) (now (a .out)) (p .2) (p .3) (sym (g .contradicts .ensures) ∙ d .before .before .before .if1 .left) (p .0) _ _ (rw (c .before .written .given .1) at (settled d))
+    own-refusal (a .kept) (now (a .area)) (a .first) (a .count) (blocksFrom (now (a .datagram)) (a .place) (a .count)) (many g)
+    (now (a .out)) (p .2) (p .3) (sym (g .contradicts .ensures) ∙ d .before .before .before .if1 .left) (p .0) _ _
+    (rw (c .before .written .given .1) at (settled d))
 
 same-length-2 : tie.Need-same-length-2
 same-length-2 c = search needs
@@ -89,7 +97,9 @@ returns-3 c =
     let a = g .before .before .before .before .before .args in
     let p = g .before .before .before .before .before .pre in
     let l = many g in
-    own-blocks (a .kept) (now (a .area)) (a .first) (a .count) (blocksFrom (now (a .datagram)) (a .place) (a .count)) l (now (a .out)) (p .2) (p .3) (sym (g .contradicts .ensures) ∙ d .before .before .before .if1 .left) (p .0) _ _ _ _ (rw (length-drop, l) (omega arith)) (c .tell .ensures) (rw (c .before .before .before .written2 .given .1) at (settled d))
+    own-blocks (a .kept) (now (a .area)) (a .first) (a .count) (blocksFrom (now (a .datagram)) (a .place) (a .count)) l (now (a .out))
+    (p .2) (p .3) (sym (g .contradicts .ensures) ∙ d .before .before .before .if1 .left) (p .0) _ _ _ _
+    (rw (length-drop, l) (omega arith)) (c .tell .ensures) (rw (c .before .before .before .written2 .given .1) at (settled d))
 
 pub hand-over-own-spec : {M : Type 1} → statement M
 hand-over-own-spec =

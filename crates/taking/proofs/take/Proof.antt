@@ -5,20 +5,26 @@ use Rattle.wire.specs.Fields.{Bytes}
 use Rattle.wire.proofs.Tests.{held, failed}
 use Rattle.held.specs.Hanging.{sound}
 use Rattle.record.specs.Record.{hangs}
-use Rattle.hearing.specs.Hearing.{news, end}
-use Rattle.hearing.proofs.Hearing.{heard-so}
-use Rattle.taking.proofs.Answering.{answers-broken, answers-unwhole, both-hang, answers-refusal, answers-none, fills-so, answers-messages}
+use Rattle.reports.specs.Reports.{news, end}
+use Rattle.reports.proofs.Reports.{reported-so}
+use Rattle.taking.proofs.Answering.{answers-broken, answers-unwhole, both-hang, answers-refusal, answers-none, fills-so}
+use Rattle.taking.proofs.Answering.{answers-messages}
 use borrow.Author.Needs.{needs}
 use Rattle.taking.proofs.take.Statement.{statement}
 use Rattle.taking.proofs.take.Tie as tie
 
--- once the datagram was heard
-hang : (c : tie.After-hear) → let a = c .before .before .before .before .before .before .before .before .before .before .before .args in (hangs (a .kept) ≡ true) × (sound (a .kept .held) (now (a .area)) ≡ true)
+-- once it is known what the datagram reports
+hang : (c : tie.After-report-of) → let a =
+    c .before .before .before .before .before .before .before .before .before .before .before .args in (hangs (a .kept) ≡ true)
+    × (sound (a .kept .held) (now (a .area)) ≡ true)
 hang c =
     let a = c .before .before .before .before .before .before .before .before .before .before .before .args in
-    both-hang (a .kept) (now (a .area)) (now (a .datagram)) (now (a .out)) (held (c .before .before .before .before .before .before .before .is-well-kept .ensures) (c .before .before .before .before .before .before .if1 .left)) (held (c .before .before .is-whole .ensures) (c .before .if2 .left))
+    both-hang (a .kept) (now (a .area)) (now (a .datagram)) (now (a .out))
+    (held (c .before .before .before .before .before .before .before .is-well-kept .ensures)
+    (c .before .before .before .before .before .before .if1 .left)) (held (c .before .before .is-whole .ensures) (c .before .if2 .left))
 
-bytes : (c : tie.After-hear) → Bytes (now (c .before .before .before .before .before .before .before .before .before .before .before .args .datagram))
+bytes : (c : tie.After-report-of) → Bytes
+    (now (c .before .before .before .before .before .before .before .before .before .before .before .args .datagram))
 bytes c i = c .before .before .before .before .before .before .before .before .before .shared-slice-known .given i .fits
 
 is-well-kept-requires : tie.Need-is-well-kept-requires
@@ -40,30 +46,30 @@ returns-2 c =
     let a = c .before .before .before .before .before .before .before .before .before .before .args in
     answers-unwhole (a .kept) (now (a .area)) (now (a .datagram)) (now (a .out)) (failed (c .before .is-whole .ensures) (c .if2 .taken))
 
-hear-requires : tie.Need-hear-requires
-hear-requires c κs = search needs
+report-of-requires : tie.Need-report-of-requires
+report-of-requires c κs = search needs
 
-enum-known-heard : tie.Need-enum-known-heard
-enum-known-heard c = search needs
+enum-known-reported : tie.Need-enum-known-reported
+enum-known-reported c = search needs
 
-enum-known-heard-2 : tie.Need-enum-known-heard-2
-enum-known-heard-2 c = search needs
+enum-known-reported-2 : tie.Need-enum-known-reported-2
+enum-known-reported-2 c = search needs
 
 take-messages-requires : tie.Need-take-messages-requires
 take-messages-requires c κs =
     let h = c .before .before .before .before .before in
     let a = h .before .before .before .before .before .before .before .before .before .before .before .args in
-    let m = heard-so _ _ _ (sym (c .before .before .before .heard2 .given .1) ∙ h .hear .ensures) in
+    let m = reported-so _ _ _ (sym (c .before .before .before .reported2 .given .1) ∙ h .report-of .ensures) in
     (hang h .0, hang h .1, fills-so (a .kept) (now (a .area)) (now (a .datagram)) (now (a .out)) (hang h .0) (hang h .1) (bytes h) _ _ _ m)
 
-enum-known-heard-3 : tie.Need-enum-known-heard-3
-enum-known-heard-3 c = search needs
+enum-known-reported-3 : tie.Need-enum-known-reported-3
+enum-known-reported-3 c = search needs
 
 pass-requires : tie.Need-pass-requires
 pass-requires c κs = search needs
 
-enum-known-heard-4 : tie.Need-enum-known-heard-4
-enum-known-heard-4 c = search needs
+enum-known-reported-4 : tie.Need-enum-known-reported-4
+enum-known-reported-4 c = search needs
 
 pass-requires-2 : tie.Need-pass-requires-2
 pass-requires-2 c κs = search needs
@@ -75,7 +81,8 @@ returns-3 : tie.Need-returns-3
 returns-3 c =
     let h = c .before .before .before in
     let a = h .before .before .before .before .before .before .before .before .before .before .before .args in
-    answers-refusal (a .kept) (now (a .area)) (now (a .datagram)) (now (a .out)) (hang h .0) (hang h .1) _ (heard-so _ _ _ (sym (c .before .heard .given .1) ∙ h .hear .ensures))
+    answers-refusal (a .kept) (now (a .area)) (now (a .datagram)) (now (a .out)) (hang h .0) (hang h .1) _
+    (reported-so _ _ _ (sym (c .before .reported .given .1) ∙ h .report-of .ensures))
 
 same-length-3 : tie.Need-same-length-3
 same-length-3 c = search needs
@@ -87,8 +94,10 @@ returns-4 : tie.Need-returns-4
 returns-4 c =
     let h = c .before .before .before .before .before .before .before .before .before .before in
     let a = h .before .before .before .before .before .before .before .before .before .before .before .args in
-    let m = heard-so _ _ _ (sym (c .before .before .before .before .before .before .before .before .heard2 .given .1) ∙ h .hear .ensures) in
-    answers-messages (a .kept) (now (a .area)) (now (a .datagram)) (now (a .out)) (hang h .0) (hang h .1) (bytes h) _ _ _ m _ _ _ (c .before .before .before .before .take-messages .ensures)
+    let m = reported-so _ _ _ (sym (c .before .before .before .before .before .before .before .before .reported2 .given .1)
+    ∙ h .report-of .ensures) in
+    answers-messages (a .kept) (now (a .area)) (now (a .datagram)) (now (a .out)) (hang h .0) (hang h .1) (bytes h) _ _ _ m _ _ _
+    (c .before .before .before .before .take-messages .ensures)
 
 same-length-5 : tie.Need-same-length-5
 same-length-5 c = search needs
@@ -97,8 +106,9 @@ returns-5 : tie.Need-returns-5
 returns-5 c =
     let h = c .before .before .before .before in
     let a = h .before .before .before .before .before .before .before .before .before .before .before .args in
-    let m = heard-so _ _ _ (sym (c .before .before .heard3 .given .1) ∙ h .hear .ensures) in
-    answers-none (a .kept) (now (a .area)) (now (a .datagram)) (now (a .out)) (hang h .0) (hang h .1) (news _) m refl (λ k. refl) _ (c .pass .ensures)
+    let m = reported-so _ _ _ (sym (c .before .before .reported3 .given .1) ∙ h .report-of .ensures) in
+    answers-none (a .kept) (now (a .area)) (now (a .datagram)) (now (a .out)) (hang h .0) (hang h .1) (news _) m refl (λ k. refl) _
+    (c .pass .ensures)
 
 same-length-6 : tie.Need-same-length-6
 same-length-6 c = search needs
@@ -107,8 +117,9 @@ returns-6 : tie.Need-returns-6
 returns-6 c =
     let h = c .before .before .before .before in
     let a = h .before .before .before .before .before .before .before .before .before .before .before .args in
-    let m = heard-so _ _ _ (sym (c .before .before .heard4 .given .1) ∙ h .hear .ensures) in
-    answers-none (a .kept) (now (a .area)) (now (a .datagram)) (now (a .out)) (hang h .0) (hang h .1) (end _) m refl (λ k. refl) _ (c .pass2 .ensures)
+    let m = reported-so _ _ _ (sym (c .before .before .reported4 .given .1) ∙ h .report-of .ensures) in
+    answers-none (a .kept) (now (a .area)) (now (a .datagram)) (now (a .out)) (hang h .0) (hang h .1) (end _) m refl (λ k. refl) _
+    (c .pass2 .ensures)
 
 pub take-spec : {M : Type 1} → statement M
 take-spec =
@@ -119,13 +130,13 @@ take-spec =
     is-whole-requires
     same-length
     returns-2
-    hear-requires
-    enum-known-heard
-    enum-known-heard-2
+    report-of-requires
+    enum-known-reported
+    enum-known-reported-2
     take-messages-requires
-    enum-known-heard-3
+    enum-known-reported-3
     pass-requires
-    enum-known-heard-4
+    enum-known-reported-4
     pass-requires-2
     same-length-2
     returns-3

@@ -4,7 +4,7 @@ use native.Mathlib.Omega.{arith}
 use denote.Ref.{now}
 use lib.ListN.{length}
 use Rattle.wire.specs.Fields.{Bytes}
-use Rattle.hearing.specs.Hearing.{messages, blocksFrom}
+use Rattle.reports.specs.Reports.{messages, blocksFrom}
 use Rattle.taking.specs.Taking.{own}
 use Rattle.taking.proofs.Reports.{late}
 use Rattle.taking.proofs.Answering.{whatever}
@@ -14,7 +14,8 @@ use borrow.Author.Needs.{needs}
 use Rattle.taking.proofs.take_held.Statement.{statement}
 use Rattle.taking.proofs.take_held.Tie as tie
 
-many : (c : tie.After-next) → let a = c .before .before .before .before .args in length (blocksFrom (now (a .datagram)) (a .place) (a .count)) ≡ a .count
+many : (c : tie.After-next) → let a = c .before .before .before .before .args in
+    length (blocksFrom (now (a .datagram)) (a .place) (a .count)) ≡ a .count
 many c =
     let a = c .before .before .before .before .args in
     let b : Bytes (now (a .datagram)) = λ i. c .before .before .shared-slice-known .given i .fits in
@@ -34,7 +35,8 @@ returns c =
     let n = c .before .before .before .before .before .before in
     let a = n .before .before .before .before .args in
     let p = n .before .before .before .before .pre in
-    early-any (a .kept) (now (a .area)) (a .first) (a .count) (blocksFrom (now (a .datagram)) (a .place) (a .count)) (many n) (p .0) (c .before .before .before .before .if1 .taken) _ _ (now (a .out)) (c .before .before .hold-early .ensures)
+    early-any (a .kept) (now (a .area)) (a .first) (a .count) (blocksFrom (now (a .datagram)) (a .place) (a .count)) (many n) (p .0)
+    (c .before .before .before .before .if1 .taken) _ _ (now (a .out)) (c .before .before .hold-early .ensures)
 
 hand-over-requires : tie.Need-hand-over-requires
 hand-over-requires c κs = search needs
@@ -62,8 +64,11 @@ returns-3 c =
     let l = many n in
     let first-one = p .2 .some in
     let h = c .before .if2 .left in
-    let none : own (a .kept .next .0) (messages (a .first) (blocksFrom (now (a .datagram)) (a .place) (a .count))) ≡ [] = late (a .kept .next .0) (a .first) (blocksFrom (now (a .datagram)) (a .place) (a .count)) (omega arith) (rw l h) in
-    tells-pass (a .kept) (now (a .area)) (a .first) (a .count) (blocksFrom (now (a .datagram)) (a .place) (a .count)) l (now (a .out)) (p .0) (c .before .before .before .if1 .left) none _ (c .pass .ensures ∙ whatever (a .kept) (now (a .area)) (now (a .datagram)) (now (a .out)) _ _)
+    let none : own (a .kept .next .0) (messages (a .first) (blocksFrom (now (a .datagram)) (a .place) (a .count))) ≡ [] =
+    late (a .kept .next .0) (a .first) (blocksFrom (now (a .datagram)) (a .place) (a .count)) (omega arith) (rw l h) in
+    tells-pass (a .kept) (now (a .area)) (a .first) (a .count) (blocksFrom (now (a .datagram)) (a .place) (a .count)) l (now (a .out))
+    (p .0) (c .before .before .before .if1 .left) none _
+    (c .pass .ensures ∙ whatever (a .kept) (now (a .area)) (now (a .datagram)) (now (a .out)) _ _)
 
 pub take-held-spec : {M : Type 1} → statement M
 take-held-spec =

@@ -3,7 +3,7 @@ use mathlib.Core.Path.{_≡_, _∙_}
 use native.Mathlib.Omega.{arith}
 use denote.Ref.{now}
 use Rattle.wire.specs.Fields.{Bytes}
-use Rattle.hearing.specs.Hearing.{messages, blocksFrom}
+use Rattle.reports.specs.Reports.{messages, blocksFrom}
 use Rattle.taking.specs.Taking.{own}
 use Rattle.taking.proofs.Reports.{late}
 use Rattle.taking.proofs.Answering.{whatever}
@@ -37,12 +37,16 @@ returns-2 : tie.Need-returns-2
 returns-2 c =
     let a = c .before .before .before .before .before .before .before .before .before .before .before .args in
     let p = c .before .before .before .before .before .before .before .before .before .before .before .pre in
-    let b : Bytes (now (a .datagram)) = λ i. c .before .before .before .before .before .before .before .before .before .shared-slice-known .given i .fits in
+    let b : Bytes (now (a .datagram)) = λ i.
+    c .before .before .before .before .before .before .before .before .before .shared-slice-known .given i .fits in
     let l = counted (now (a .datagram)) (a .place) (a .first) (a .count) b (p .2) in
     let first-one = p .2 .some in
     let h = c .before .if3 .left in
-    let none : own (a .kept .next .0) (messages (a .first) (blocksFrom (now (a .datagram)) (a .place) (a .count))) ≡ [] = late (a .kept .next .0) (a .first) (blocksFrom (now (a .datagram)) (a .place) (a .count)) (omega arith) (rw l h) in
-    tells-pass (a .kept) (now (a .area)) (a .first) (a .count) (blocksFrom (now (a .datagram)) (a .place) (a .count)) l (now (a .out)) (p .0) (c .before .before .before .if2 .taken) none _ (c .pass .ensures ∙ whatever (a .kept) (now (a .area)) (now (a .datagram)) (now (a .out)) _ _)
+    let none : own (a .kept .next .0) (messages (a .first) (blocksFrom (now (a .datagram)) (a .place) (a .count))) ≡ [] =
+    late (a .kept .next .0) (a .first) (blocksFrom (now (a .datagram)) (a .place) (a .count)) (omega arith) (rw l h) in
+    tells-pass (a .kept) (now (a .area)) (a .first) (a .count) (blocksFrom (now (a .datagram)) (a .place) (a .count)) l (now (a .out))
+    (p .0) (c .before .before .before .if2 .taken) none _
+    (c .pass .ensures ∙ whatever (a .kept) (now (a .area)) (now (a .datagram)) (now (a .out)) _ _)
 
 take-held-requires : tie.Need-take-held-requires
 take-held-requires c κs = search needs

@@ -27,7 +27,8 @@ returns : tie.Need-returns Inv-loop μ-loop
 returns c =
     let b = c .before .before .before .before in
     let t = now (b .before .before .args .t) in
-    c .text-from .ensures ∙ sym (b .loop .inv ∙ spaces-stop t (b .loop .i) (c .before .before .before .loop-test .taken) (c .before .if1 .taken))
+    c .text-from .ensures ∙ sym (b .loop .inv ∙ spaces-stop t (b .loop .i) (c .before .before .before .loop-test .taken)
+    (c .before .if1 .taken))
 
 add-i : tie.Need-add-i Inv-loop μ-loop
 add-i c = search needs

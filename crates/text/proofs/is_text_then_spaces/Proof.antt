@@ -33,7 +33,8 @@ returns c =
     let b = c .before .before .before .before .before in
     let t = now (b .before .before .args .t) in
     let f = c .before .before .is-letter-or-digit in
-    let s = text-stops t (b .loop .i) (c .before .before .before .before .loop-test .taken) (sym (f .ensures) ∙ not-true (f .result) (c .before .if1 .taken)) in
+    let s = text-stops t (b .loop .i) (c .before .before .before .before .loop-test .taken)
+    (sym (f .ensures) ∙ not-true (f .result) (c .before .if1 .taken)) in
     c .blank-from .ensures ∙ sym (b .loop .inv ∙ s .1)
 
 add-i : tie.Need-add-i Inv-loop μ-loop
@@ -47,7 +48,8 @@ loop-again c =
     let b = c .before .before .before .before in
     let t = now (b .before .before .args .t) in
     let f = c .before .is-letter-or-digit in
-    b .loop .inv ∙ text-goes-on t (b .loop .i) (c .before .before .before .loop-test .taken) (sym (f .ensures) ∙ not-false (f .result) (c .if1 .left)) .1
+    b .loop .inv ∙ text-goes-on t (b .loop .i) (c .before .before .before .loop-test .taken)
+    (sym (f .ensures) ∙ not-false (f .result) (c .if1 .left)) .1
 
 returns-2 : tie.Need-returns-2 Inv-loop μ-loop
 returns-2 c =

@@ -30,7 +30,8 @@ returns c =
     let b = c .before .before .before .before in
     let t = now (b .before .before .args .t) in
     let f = c .before .is-letter-or-digit in
-    sym (b .loop .inv ∙ text-stops t (b .loop .j) (c .before .before .before .loop-test .taken) (sym (f .ensures) ∙ not-true (f .result) (c .if1 .taken)) .0)
+    sym (b .loop .inv ∙ text-stops t (b .loop .j) (c .before .before .before .loop-test .taken)
+    (sym (f .ensures) ∙ not-true (f .result) (c .if1 .taken)) .0)
 
 add-j : tie.Need-add-j Inv-loop μ-loop
 add-j c = search needs
@@ -43,7 +44,8 @@ loop-again c =
     let b = c .before .before .before .before in
     let t = now (b .before .before .args .t) in
     let f = c .before .is-letter-or-digit in
-    b .loop .inv ∙ text-goes-on t (b .loop .j) (c .before .before .before .loop-test .taken) (sym (f .ensures) ∙ not-false (f .result) (c .if1 .left)) .0
+    b .loop .inv ∙ text-goes-on t (b .loop .j) (c .before .before .before .loop-test .taken)
+    (sym (f .ensures) ∙ not-false (f .result) (c .if1 .left)) .0
 
 returns-2 : tie.Need-returns-2 Inv-loop μ-loop
 returns-2 c =

@@ -18,19 +18,28 @@ use Rattle.ufo_compose.proofs.add_message.Statement.{statement}
 use Rattle.ufo_compose.proofs.add_message.Tie as tie
 
 -- the output's first bytes are taken so far
-begun : (c : tie.After-enum-told) → let a = c .before .before .before .before .before .before .before .args in Begun (now (a .out)) (a .used)
+begun : (c : tie.After-enum-told) → let a = c .before .before .before .before .before .before .before .args in
+    Begun (now (a .out)) (a .used)
 begun c =
     let i = c .before .before .before .before in
     let a = i .before .before .before .args in
     let g = c .enum-told .given in
-    record { inside = i .if1 .left; bytes = λ k. i .before .slice-known .given k .fits; begun = was-taken (soFar (take (a .used) (now (a .out)))) (g .0 .0) (sym (c .before .before .read-so-far .ensures) ∙ g .1) }
+    record {
+      inside = i .if1 .left;
+      bytes = λ k. i .before .slice-known .given k .fits;
+      begun = was-taken (soFar (take (a .used) (now (a .out)))) (g .0 .0) (sym (c .before .before .read-so-far .ensures) ∙ g .1);
+    }
 
 -- and the message goes behind them
-behind : (c : tie.Else2) → let a = c .before .before .before .before .before .before .before .before .before .args in let m = messageOf (a .message) (now (a .«data»)) in addReply m (now (a .out)) (a .used) ≡ reply m (length (midOf (a .used) (length (now (a .out)) - a .used) (now (a .out)))) into (λ b. taken (take (a .used) (now (a .out)) ++ b))
+behind : (c : tie.Else2) → let a = c .before .before .before .before .before .before .before .before .before .args in
+    let m = messageOf (a .message) (now (a .«data»)) in addReply m (now (a .out)) (a .used) ≡ reply m
+    (length (midOf (a .used) (length (now (a .out)) - a .used) (now (a .out)))) into (λ b. taken (take (a .used) (now (a .out)) ++ b))
 behind c =
     let a = c .before .before .before .before .before .before .before .before .before .args in
     let out = now (a .out) in
-    rw (mid-len (a .used) (length out) out (omega arith)) (add-behind out (a .used) (begun (c .before .before)) (messageOf (a .message) (now (a .«data»))) (held (c .before .fits2 .ensures) (c .if2 .left)))
+    rw (mid-len (a .used) (length out) out (omega arith))
+    (add-behind out (a .used) (begun (c .before .before)) (messageOf (a .message) (now (a .«data»)))
+    (held (c .before .fits2 .ensures) (c .if2 .left)))
 
 returns : tie.Need-returns
 returns c =
@@ -66,7 +75,8 @@ same-length c = search needs
 returns-2 : tie.Need-returns-2
 returns-2 c =
     let a = c .before .before .before .before .before .before .before .before .before .args in
-    refuses _ _ 2 (add-over (now (a .out)) (a .used) (begun (c .before .before)) (messageOf (a .message) (now (a .«data»))) (failed (c .before .fits2 .ensures) (c .if2 .taken)))
+    refuses _ _ 2 (add-over (now (a .out)) (a .used) (begun (c .before .before)) (messageOf (a .message) (now (a .«data»)))
+    (failed (c .before .fits2 .ensures) (c .if2 .taken)))
 
 sub-write-message : tie.Need-sub-write-message
 sub-write-message c = search needs
@@ -90,7 +100,8 @@ add-t22 : tie.Need-add-t22
 add-t22 c =
     let w = c .before .before .before .before .before in
     let s = w .before .before .before .before .before .before .before .before .before .before .before in
-    let l = given-inside (now (s .args .out)) _ (s .args .used) (c .before .n3 .given .0 .0) (omega arith) _ _ (c .before .n3 .given .1) (w .write-message .ensures) (omega arith) in
+    let l = given-inside (now (s .args .out)) _ (s .args .used) (c .before .n3 .given .0 .0) (omega arith) _ _ (c .before .n3 .given .1)
+    (w .write-message .ensures) (omega arith) in
     omega (arith, s .fits)
 
 same-length-2 : tie.Need-same-length-2
@@ -100,7 +111,8 @@ returns-3 : tie.Need-returns-3
 returns-3 c =
     let a = c .before .before .before .before .before .before .before .before .args in
     let g = c .before .n .given in
-    refuses _ _ (g .0 .0) (add-refused (messageOf (a .message) (now (a .«data»))) (now (a .out)) (a .used) (g .0 .0) (omega arith) (was-refused (soFar (take (a .used) (now (a .out)))) (g .0 .0) (sym (c .before .before .before .read-so-far .ensures) ∙ g .1)))
+    refuses _ _ (g .0 .0) (add-refused (messageOf (a .message) (now (a .«data»))) (now (a .out)) (a .used) (g .0 .0) (omega arith)
+    (was-refused (soFar (take (a .used) (now (a .out)))) (g .0 .0) (sym (c .before .before .before .read-so-far .ensures) ∙ g .1)))
 
 same-length-3 : tie.Need-same-length-3
 same-length-3 c = search needs
@@ -109,7 +121,8 @@ returns-4 : tie.Need-returns-4
 returns-4 c =
     let w = c .before .before .before .before .before in
     let a = w .before .before .before .before .before .before .before .before .before .before .before .args in
-    settled-by (sym (behind (w .before .before))) (given-refused (now (a .out)) _ (a .used) (c .before .n2 .given .0 .0) (omega arith) _ _ (c .before .n2 .given .1) (w .write-message .ensures))
+    settled-by (sym (behind (w .before .before))) (given-refused (now (a .out)) _ (a .used) (c .before .n2 .given .0 .0) (omega arith) _ _
+    (c .before .n2 .given .1) (w .write-message .ensures))
 
 same-length-4 : tie.Need-same-length-4
 same-length-4 c = search needs
@@ -118,7 +131,8 @@ returns-5 : tie.Need-returns-5
 returns-5 c =
     let w = c .before .before .before .before .before in
     let a = w .before .before .before .before .before .before .before .before .before .before .before .args in
-    settled-by (sym (behind (w .before .before))) (given-written (now (a .out)) _ (a .used) (c .before .n3 .given .0 .0) (omega arith) _ _ (c .before .n3 .given .1) (w .write-message .ensures))
+    settled-by (sym (behind (w .before .before))) (given-written (now (a .out)) _ (a .used) (c .before .n3 .given .0 .0) (omega arith) _ _
+    (c .before .n3 .given .1) (w .write-message .ensures))
 
 pub add-message-spec : {M : Type 1} → statement M
 add-message-spec =

@@ -49,7 +49,8 @@ returns-4 : tie.Need-returns-4
 returns-4 c =
     let a = c .before .before .before .args in
     let n = length (now (a .«data»)) in
-    rw (c .before .enum-told3 .given .1, long (now (a .«data»))) (leb-same n (a .room - 3) (3 + n) (a .room) (λ t. omega arith) (λ t. omega arith))
+    rw (c .before .enum-told3 .given .1, long (now (a .«data»)))
+    (leb-same n (a .room - 3) (3 + n) (a .room) (λ t. omega arith) (λ t. omega arith))
 
 returns-5 : tie.Need-returns-5
 unfolding bytesOf

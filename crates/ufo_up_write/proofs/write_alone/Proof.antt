@@ -26,7 +26,8 @@ returns-2 : tie.Need-returns-2
 returns-2 c =
     let a = c .before .before .before .before .before .before .args in
     let l = length-frame (a .kind ∷ []) in
-    has-room _ (frame (a .kind ∷ [])) (now (a .out)) refl _ 3 (sym l) (omega arith) (rw (c .before .before .put-head .ensures) (laid-alone (now (a .out)) (a .kind)))
+    has-room _ (frame (a .kind ∷ [])) (now (a .out)) refl _ 3 (sym l) (omega arith)
+    (rw (c .before .before .put-head .ensures) (laid-alone (now (a .out)) (a .kind)))
 
 pub write-alone-spec : {M : Type 1} → statement M
 write-alone-spec = tie.close (tie.spec returns put-head-requires same-length returns-2)

@@ -20,7 +20,9 @@ use Rattle.ufo_up_write.proofs.write_request.Statement.{statement}
 use Rattle.ufo_up_write.proofs.write_request.Tie as tie
 
 -- the reply, by what is left to check
-replies : (c : tie.Start) → let a = c .args in reply (request (a .first .0) (a .count)) (length (now (a .out))) ≡ checked (leftT (a .first .0) (a .count)) (checked ((held (a .first .0) else 7) ∷ []) (within (length (now (a .out))) (frame (writeMessage (request (a .first .0) (a .count))))))
+replies : (c : tie.Start) → let a = c .args in reply (request (a .first .0) (a .count)) (length (now (a .out))) ≡ checked
+    (leftT (a .first .0) (a .count)) (checked ((held (a .first .0) else 7) ∷ [])
+    (within (length (now (a .out))) (frame (writeMessage (request (a .first .0) (a .count))))))
 replies c = let a = c .args in reply-request (a .first .0) (a .count) (length (now (a .out))) (omega arith)
 
 returns : tie.Need-returns
@@ -57,7 +59,13 @@ returns-5 c =
     let s = c .before .before .before .before .before .before .before .before .before .before .before .before .before .before .before .before .before in
     let n = s .args .first .0 in
     let out = now (s .args .out) in
-    writes _ _ (frame (writeMessage (request n (s .args .count)))) _ 9 (replies s ∙ search tests) refl (omega arith) (rw (c .before .before .put2 .ensures, c .before .before .before .before .before .before .put4 .ensures, c .before .before .before .before .before .before .before .before .before .before .put-head .ensures) (laid-request out n (s .args .count)))
+    writes _ _ (frame (writeMessage (request n (s .args .count)))) _ 9 (replies s ∙ search tests) refl (omega arith)
+    (rw (
+      c .before .before .put2 .ensures,
+      c .before .before .before .before .before .before .put4 .ensures,
+      c .before .before .before .before .before .before .before .before .before .before .put-head .ensures,
+    )
+    (laid-request out n (s .args .count)))
 
 pub write-request-spec : {M : Type 1} → statement M
 write-request-spec =

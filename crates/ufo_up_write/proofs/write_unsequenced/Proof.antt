@@ -50,7 +50,12 @@ returns-3 c =
     let a = c .before .before .before .before .before .before .before .before .before .before .before .before .args in
     let packet = frame (85 ∷ now (a .«data»)) in
     let l = length-frame (85 ∷ now (a .«data»)) in
-    has-room _ packet (now (a .out)) (reply-unsequenced (now (a .«data»)) (length (now (a .out))) ∙ search tests) _ _ (omega arith) (omega arith) (rw (c .before .before .copy .ensures, c .before .before .before .before .before .before .put-head .ensures, take-length (now (a .«data»))) (laid-unsequenced (now (a .out)) (now (a .«data»))))
+    has-room _ packet (now (a .out)) (reply-unsequenced (now (a .«data»)) (length (now (a .out))) ∙ search tests) _ _ (omega arith)
+    (omega arith) (rw (
+      c .before .before .copy .ensures,
+      c .before .before .before .before .before .before .put-head .ensures,
+      take-length (now (a .«data»)),
+    ) (laid-unsequenced (now (a .out)) (now (a .«data»))))
 
 pub write-unsequenced-spec : {M : Type 1} → statement M
 write-unsequenced-spec =

@@ -22,11 +22,14 @@ use borrow.Author.Needs.{needs}
 use Rattle.ufo_write.proofs.write_accept.Statement.{statement}
 use Rattle.ufo_write.proofs.write_accept.Tie as tie
 
-replied : (s : Name) (next room : ℕ) → acceptReply (nameBytes s) next room ≡ checked (ofAccept (nameBytes s) next) (within room (write (accept (nameBytes s) next)))
+replied : (s : Name) (next room : ℕ) → acceptReply (nameBytes s) next room ≡ checked (ofAccept (nameBytes s) next)
+    (within room (write (accept (nameBytes s) next)))
 replied s next room = accept-reply (nameBytes s) next room (length-nameBytes s)
 
 -- the name is lawful: the number is left to check
-named : (c : tie.Else2) → let a = c .before .before .before .before .before .args in acceptReply (nameBytes (a .session)) (a .next .0) (length (now (a .out))) ≡ checked ((not (a .next .0 is 0) else 6) ∷ (a .next .0 atMost 2 ^ 32 - 1 else 7) ∷ []) (within (length (now (a .out))) (write (accept (nameBytes (a .session)) (a .next .0))))
+named : (c : tie.Else2) → let a = c .before .before .before .before .before .args in acceptReply (nameBytes (a .session)) (a .next .0)
+    (length (now (a .out))) ≡ checked ((not (a .next .0 is 0) else 6) ∷ (a .next .0 atMost 2 ^ 32 - 1 else 7) ∷ [])
+    (within (length (now (a .out))) (write (accept (nameBytes (a .session)) (a .next .0))))
 named c =
     let t = c .before .before .before .is-name-then-spaces in
     rw (replied, ← t .ensures, not-false (t .result) (c .before .before .if1 .left), ← c .before .is-blank-name .ensures, c .if2 .left)
@@ -46,7 +49,8 @@ returns-2 : tie.Need-returns-2
 returns-2 c =
     let b = c .before .before in
     let t = b .before .is-name-then-spaces in
-    rw (replied, ← t .ensures, not-false (t .result) (b .if1 .left), ← c .before .is-blank-name .ensures, c .if2 .taken) (refuses _ _ 6 refl)
+    rw (replied, ← t .ensures, not-false (t .result) (b .if1 .left), ← c .before .is-blank-name .ensures, c .if2 .taken)
+    (refuses _ _ 6 refl)
 
 returns-3 : tie.Need-returns-3
 returns-3 c = rw (named (c .before), c .if3 .taken) (refuses _ _ 6 refl)
@@ -60,7 +64,13 @@ returns-5 : tie.Need-returns-5
 unfolding bytesOf
 returns-5 c =
     let a = c .before .before .before .before .before .before .before .before .args in
-    rw (named (c .before .before .before), ne-eqb (a .next .0) 0 (c .before .before .if3 .left), le-leb (a .next .0) (2 ^ 32 - 1) (c .before .if4 .left), lt-leb 15 (length (now (a .out))) (c .if5 .taken)) (refuses _ _ 9 refl)
+    rw (
+      named (c .before .before .before),
+      ne-eqb (a .next .0) 0 (c .before .before .if3 .left),
+      le-leb (a .next .0) (2 ^ 32 - 1)
+          (c .before .if4 .left),
+      lt-leb 15 (length (now (a .out))) (c .if5 .taken),
+    ) (refuses _ _ 9 refl)
 
 slice-write-out : tie.Need-slice-write-out
 slice-write-out c = search needs
@@ -73,7 +83,11 @@ cast-put4 c = search needs
 
 put4-requires : tie.Need-put4-requires
 put4-requires c κs =
-    omega (arith, length-set (now (c .before .before .before .before .before .before .before .before .before .before .before .before .before .args .out)) 0 65)
+    omega (
+      arith,
+      length-set
+          (now (c .before .before .before .before .before .before .before .before .before .before .before .before .before .args .out)) 0 65,
+    )
 
 same-length : tie.Need-same-length
 same-length c = c .before .before .put4 .kept .0 ∙ (c .before .before .before .before .before .before .put-name .kept .0 ∙ simp length-set)
@@ -84,8 +98,15 @@ returns-6 c =
     let m = c .before .before .before .before .before .before in
     let e = m .before .before in
     let a = e .before .before .before .before .before .before .before .before .args in
-    rw (named (e .before .before .before), ne-eqb (a .next .0) 0 (e .before .before .if3 .left), le-leb (a .next .0) (2 ^ 32 - 1) (e .before .if4 .left), le-leb 15 (length (now (a .out))) (e .if5 .left))
-    (writes _ _ (write (accept (nameBytes (a .session)) (a .next .0))) _ 15 refl refl (e .if5 .left) (c .before .before .put4 .ensures ∙ ap (λ (l : List ℕ). sets l 11 (bytesOf 4 (a .next .0))) (m .put-name .ensures)))
+    rw (
+      named (e .before .before .before),
+      ne-eqb (a .next .0) 0 (e .before .before .if3 .left),
+      le-leb (a .next .0) (2 ^ 32 - 1)
+          (e .before .if4 .left),
+      le-leb 15 (length (now (a .out))) (e .if5 .left),
+    )
+    (writes _ _ (write (accept (nameBytes (a .session)) (a .next .0))) _ 15 refl refl (e .if5 .left)
+    (c .before .before .put4 .ensures ∙ ap (λ (l : List ℕ). sets l 11 (bytesOf 4 (a .next .0))) (m .put-name .ensures)))
 
 pub write-accept-spec : {M : Type 1} → statement M
 write-accept-spec =

@@ -23,24 +23,41 @@ use Rattle.ufo_write.proofs.write_messages.Statement.{statement}
 use Rattle.ufo_write.proofs.write_messages.Tie as tie
 
 -- what the walk over the blocks found
-found : (c : tie.After-exactly) → let a = c .before .before .before .before .args in isWhole (cut (a .count) (now (a .blocks))) ≡ c .exactly .result
+found : (c : tie.After-exactly) → let a = c .before .before .before .before .args in
+    isWhole (cut (a .count) (now (a .blocks))) ≡ c .exactly .result
 found c =
     let a = c .before .before .before .before .args in
     fills-says (now (a .blocks)) 0 (a .count) (c .exactly .result) (omega arith) (c .exactly .ensures)
 
 -- the blocks fill exactly: the number is left to check
-framed : (c : tie.Else2) → let a = c .before .before .before .before .before .args in messagesReply (a .first .0) (a .count) (now (a .blocks)) (length (now (a .out))) ≡ checked ((not (a .first .0 is 0) else 6) ∷ (a .first .0 + a .count atMost 2 ^ 32 - 1 else 7) ∷ []) (within (length (now (a .out))) (laid (a .first .0) (a .count) (now (a .blocks))))
+framed : (c : tie.Else2) → let a = c .before .before .before .before .before .args in
+    messagesReply (a .first .0) (a .count) (now (a .blocks)) (length (now (a .out))) ≡ checked
+    ((not (a .first .0 is 0) else 6) ∷ (a .first .0 + a .count atMost 2 ^ 32 - 1 else 7) ∷ [])
+    (within (length (now (a .out))) (laid (a .first .0) (a .count) (now (a .blocks))))
 framed c =
     let b = c .before in
     let a = b .before .before .before .before .args in
     let k : a .count < 2 ^ 16 = omega arith in
-    rw (messages-reply, le-leb (7 + length (now (a .blocks))) limit (omega (arith, b .before .if1 .left)), found b, not-false (b .exactly .result) (c .if2 .left))
+    rw (
+      messages-reply,
+      le-leb (7 + length (now (a .blocks))) limit (omega (arith, b .before .if1 .left)),
+      found b,
+      not-false
+          (b .exactly .result) (c .if2 .left),
+    )
 
 -- nothing is refused but for want of room
-fits : (c : tie.Else4) → let a = c .before .before .before .before .before .before .before .args in messagesReply (a .first .0) (a .count) (now (a .blocks)) (length (now (a .out))) ≡ within (length (now (a .out))) (laid (a .first .0) (a .count) (now (a .blocks)))
+fits : (c : tie.Else4) → let a = c .before .before .before .before .before .before .before .args in
+    messagesReply (a .first .0) (a .count) (now (a .blocks)) (length (now (a .out))) ≡ within (length (now (a .out)))
+    (laid (a .first .0) (a .count) (now (a .blocks)))
 fits c =
     let a = c .before .before .before .before .before .before .before .args in
-    rw (framed (c .before .before), ne-eqb (a .first .0) 0 (c .before .if3 .left), le-leb (a .first .0 + a .count) (2 ^ 32 - 1) (omega arith))
+    rw (
+      framed (c .before .before),
+      ne-eqb (a .first .0) 0 (c .before .if3 .left),
+      le-leb (a .first .0 + a .count) (2 ^ 32 - 1)
+          (omega arith),
+    )
 
 add-size : tie.Need-add-size
 add-size c = search needs
@@ -59,7 +76,13 @@ returns-2 c =
     let b = c .before in
     let a = b .before .before .before .before .args in
     let k : a .count < 2 ^ 16 = omega arith in
-    rw (messages-reply, le-leb (7 + length (now (a .blocks))) limit (omega (arith, b .before .if1 .left)), found b, not-true (b .exactly .result) (c .if2 .taken)) (refuses _ _ 4 refl)
+    rw (
+      messages-reply,
+      le-leb (7 + length (now (a .blocks))) limit (omega (arith, b .before .if1 .left)),
+      found b,
+      not-true
+          (b .exactly .result) (c .if2 .taken),
+    ) (refuses _ _ 4 refl)
 
 returns-3 : tie.Need-returns-3
 returns-3 c = rw (framed (c .before), c .if3 .taken) (refuses _ _ 6 refl)
@@ -70,7 +93,12 @@ sub-if4 c = search needs
 returns-4 : tie.Need-returns-4
 returns-4 c =
     let a = c .before .before .before .before .before .before .before .args in
-    rw (framed (c .before .before), ne-eqb (a .first .0) 0 (c .before .if3 .left), lt-leb (a .first .0 + a .count) (2 ^ 32 - 1) (omega arith)) (refuses _ _ 7 refl)
+    rw (
+      framed (c .before .before),
+      ne-eqb (a .first .0) 0 (c .before .if3 .left),
+      lt-leb (a .first .0 + a .count) (2 ^ 32 - 1)
+          (omega arith),
+    ) (refuses _ _ 7 refl)
 
 returns-5 : tie.Need-returns-5
 returns-5 c =
@@ -90,14 +118,24 @@ put4-requires c κs = simp length-set (omega arith)
 
 put2-requires : tie.Need-put2-requires
 put2-requires c κs =
-    omega (arith, length-set (now (c .before .before .before .before .before .before .before .before .before .before .before .before .before .args .out)) 0 83)
+    omega (
+      arith,
+      length-set
+          (now (c .before .before .before .before .before .before .before .before .before .before .before .before .before .args .out)) 0 83,
+    )
 
 copy-requires : tie.Need-copy-requires
 copy-requires c κs =
-    omega (arith, length-set (now (c .before .before .before .before .before .before .before .before .before .before .before .before .before .before .before .before .before .args .out)) 0 83)
+    omega (
+      arith,
+      length-set
+          (now (c .before .before .before .before .before .before .before .before .before .before .before .before .before .before .before .before .before .args .out)) 0 83,
+    )
 
 same-length : tie.Need-same-length
-same-length c = c .before .before .copy .kept .0 ∙ (c .before .before .before .before .before .before .put2 .kept .0 ∙ (c .before .before .before .before .before .before .before .before .before .before .put4 .kept .0 ∙ simp length-set))
+same-length c = c .before .before .copy .kept .0
+    ∙ (c .before .before .before .before .before .before .put2 .kept .0
+    ∙ (c .before .before .before .before .before .before .before .before .before .before .put4 .kept .0 ∙ simp length-set))
 
 returns-6 : tie.Need-returns-6
 returns-6 c =

@@ -14,7 +14,8 @@ use Rattle.ufo_write.proofs.write_reject.Tie as tie
 returns : tie.Need-returns
 returns c =
     let a = c .before .before .args in
-    rw (reject-reply, one-of-test (a .reason) 65 83 (c .before .match .keys1), lt-leb 2 (length (now (a .out))) (c .if1 .taken)) (refuses _ _ 9 refl)
+    rw (reject-reply, one-of-test (a .reason) 65 83 (c .before .match .keys1), lt-leb 2 (length (now (a .out))) (c .if1 .taken))
+    (refuses _ _ 9 refl)
 
 slice-write-out : tie.Need-slice-write-out
 slice-write-out c = search needs

@@ -13,7 +13,11 @@ is-in-range-requires : tie.Need-is-in-range-requires
 is-in-range-requires c κs = search needs
 
 returns-2 : tie.Need-returns-2
-returns-2 c = rw (held (c .before .before .before .is-sound .ensures) (c .before .before .if1 .left), failed (c .before .is-in-range .ensures) (c .if2 .taken))
+returns-2 c = rw (
+  held (c .before .before .before .is-sound .ensures) (c .before .before .if1 .left),
+  failed
+      (c .before .is-in-range .ensures) (c .if2 .taken),
+)
 
 enum-told : tie.Need-enum-told
 enum-told c = search needs
@@ -33,17 +37,34 @@ clamp-requires c κs = search needs
 returns-3 : tie.Need-returns-3
 returns-3 c =
     let fit = c .before .before in
-    rw (held (fit .before .before .before .is-sound .ensures) (fit .before .before .if1 .left), held (fit .before .is-in-range .ensures) (fit .if2 .left), c .enum-told .given .1)
+    rw (
+      held (fit .before .before .before .is-sound .ensures) (fit .before .before .if1 .left),
+      held (fit .before .is-in-range .ensures)
+          (fit .if2 .left),
+      c .enum-told .given .1,
+    )
 
 returns-4 : tie.Need-returns-4
 returns-4 c =
     let fit = c .before .before .before in
-    rw (held (fit .before .before .before .is-sound .ensures) (fit .before .before .if1 .left), held (fit .before .is-in-range .ensures) (fit .if2 .left), c .before .rule .given .1)
+    rw (
+      held (fit .before .before .before .is-sound .ensures) (fit .before .before .if1 .left),
+      held (fit .before .is-in-range .ensures)
+          (fit .if2 .left),
+      c .before .rule .given .1,
+    )
 
 returns-5 : tie.Need-returns-5
 returns-5 c =
     let fit = c .before .before .before .before .before in
-    rw (held (fit .before .before .before .is-sound .ensures) (fit .before .before .if1 .left), held (fit .before .is-in-range .ensures) (fit .if2 .left), c .before .before .before .rule2 .given .1, c .clamp .ensures, c .before .measure .ensures)
+    rw (
+      held (fit .before .before .before .is-sound .ensures) (fit .before .before .if1 .left),
+      held (fit .before .is-in-range .ensures)
+          (fit .if2 .left),
+      c .before .before .before .rule2 .given .1,
+      c .clamp .ensures,
+      c .before .measure .ensures,
+    )
 
 pub wait-of-spec : {M : Type 1} → statement M
 wait-of-spec =

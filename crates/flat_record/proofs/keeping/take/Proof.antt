@@ -25,10 +25,21 @@ same-length-2 : tie.Need-same-length-2
 same-length-2 c = search needs
 
 returns : tie.Need-returns
-returns c = rw (← c .before .before .before .before .before .before .before .before .before .before .is-readable .ensures, c .before .before .before .before .before .before .before .before .before .if1 .taken, ← c .before .before .before .before .before .before .before .before .record-of .ensures) (record { answer = rw (← c .before .before .before .before .before .take .ensures .answer) (c .flat-taken .ensures); bytes = c .before .before .before .before .before .take .ensures .bytes; slots = c .before .before .before .before .before .take .ensures .slots })
+returns c = rw (
+  ← c .before .before .before .before .before .before .before .before .before .before .is-readable .ensures,
+  c .before .before .before .before .before .before .before .before .before .if1 .taken,
+  ← c .before .before .before .before .before .before .before .before .record-of .ensures,
+)
+    (record {
+      answer = rw (← c .before .before .before .before .before .take .ensures .answer) (c .flat-taken .ensures);
+      bytes = c .before .before .before .before .before .take .ensures .bytes;
+      slots =
+          c .before .before .before .before .before .take .ensures .slots;
+    })
 
 returns-2 : tie.Need-returns-2
-returns-2 c = rw (← c .before .before .is-readable .ensures, c .before .if1 .left) (record { answer = c .flat-taken2 .ensures; bytes = refl; slots = refl })
+returns-2 c = rw (← c .before .before .is-readable .ensures, c .before .if1 .left)
+    (record { answer = c .flat-taken2 .ensures; bytes = refl; slots = refl })
 
 pub take-spec : {M : Type 1} → statement M
 take-spec =

@@ -15,7 +15,12 @@ flat-opened-requires : tie.Need-flat-opened-requires
 flat-opened-requires c κs = search needs
 
 returns : tie.Need-returns
-returns c = rw (c .flat-opened .ensures, c .before .open-ufo .ensures, c .before .before .name-of .ensures .0, c .before .before .before .bare .ensures)
+returns c = rw (
+  c .flat-opened .ensures,
+  c .before .open-ufo .ensures,
+  c .before .before .name-of .ensures .0,
+  c .before .before .before .bare .ensures,
+)
 
 pub open-ufo-spec : {M : Type 1} → statement M
 open-ufo-spec =

@@ -52,10 +52,30 @@ flat-asked-requires-2 : tie.Need-flat-asked-requires-2
 flat-asked-requires-2 c κs = search needs
 
 returns : tie.Need-returns
-returns c = rw (together (c .before .before .before .before .before .before .before .before .args .given) (c .before .before .before .before .before .before .before .before .args .sheet) (c .before .before .before .before .before .before .before .before .args .patience) (c .before .before .before .before .before .before .before .before .args .elapsed), ← c .before .before .before .before .before .before .before .is-readable .ensures, ← c .before .before .before .before .before .before .is-flag .ensures, c .before .before .before .before .before .if1 .taken, c .flat-asked .ensures, c .before .ask .ensures, c .before .before .rule-of .ensures, c .before .before .before .sheet-of .ensures, c .before .before .before .before .record-of .ensures)
+returns c = rw (
+  together (c .before .before .before .before .before .before .before .before .args .given)
+      (c .before .before .before .before .before .before .before .before .args .sheet)
+      (c .before .before .before .before .before .before .before .before .args .patience)
+      (c .before .before .before .before .before .before .before .before .args .elapsed),
+  ← c .before .before .before .before .before .before .before .is-readable .ensures,
+  ← c .before .before .before .before .before .before .is-flag .ensures,
+  c .before .before .before .before .before .if1 .taken,
+  c .flat-asked .ensures,
+  c .before .ask .ensures,
+  c .before .before .rule-of .ensures,
+  c .before .before .before .sheet-of .ensures,
+  c .before .before .before .before .record-of .ensures,
+)
 
 returns-2 : tie.Need-returns-2
-returns-2 c = rw (together (c .before .before .before .before .args .given) (c .before .before .before .before .args .sheet) (c .before .before .before .before .args .patience) (c .before .before .before .before .args .elapsed), ← c .before .before .before .is-readable .ensures, ← c .before .before .is-flag .ensures, c .before .if1 .left, c .flat-asked2 .ensures)
+returns-2 c = rw (
+  together (c .before .before .before .before .args .given) (c .before .before .before .before .args .sheet)
+      (c .before .before .before .before .args .patience) (c .before .before .before .before .args .elapsed),
+  ← c .before .before .before .is-readable .ensures,
+  ← c .before .before .is-flag .ensures,
+  c .before .if1 .left,
+  c .flat-asked2 .ensures,
+)
 
 pub ask-spec : {M : Type 1} → statement M
 ask-spec =

@@ -42,7 +42,8 @@ returns c =
     let l = c .before .before .before .before .before .loop in
     let a = c .before .before .before .before .before .before .before .args in
     let e = sym (c .before .before .before .is-full .ensures) ∙ c .before .before .if1 .taken in
-    sym (l .inv .1 ∙ every-fails (fits (a .held) (now (a .area))) (l .slot) (c .before .before .before .before .loop-test .taken) (overlong (a .held) (now (a .area)) (l .slot - 1) e (omega (arith, c .if2 .taken, c .before .get2 .ensures))))
+    sym (l .inv .1 ∙ every-fails (fits (a .held) (now (a .area))) (l .slot) (c .before .before .before .before .loop-test .taken)
+    (overlong (a .held) (now (a .area)) (l .slot - 1) e (omega (arith, c .if2 .taken, c .before .get2 .ensures))))
 
 loop-less : tie.Need-loop-less Inv-loop μ-loop
 loop-less c = search needs
@@ -51,8 +52,11 @@ loop-again : tie.Need-loop-again Inv-loop μ-loop
 loop-again c =
     let l = c .before .before .before .before .before .loop in
     let a = c .before .before .before .before .before .before .before .args in
-    let p = short-fits (a .held) (now (a .area)) (l .slot - 1) (omega (arith, c .if2 .left, c .before .get2 .ensures)) in
-    (omega (arith, l .inv .0), l .inv .1 ∙ every-step (fits (a .held) (now (a .area))) (l .slot) (c .before .before .before .before .loop-test .taken) p)
+    let p = short-fits (a .held) (now (a .area)) (l .slot - 1) (omega (arith, c .if2 .left, c .before .get2 .ensures)) in (
+      omega (arith, l .inv .0),
+      l .inv .1 ∙ every-step (fits (a .held) (now (a .area))) (l .slot)
+          (c .before .before .before .before .loop-test .taken) p,
+    )
 
 loop-less-2 : tie.Need-loop-less-2 Inv-loop μ-loop
 loop-less-2 c = search needs

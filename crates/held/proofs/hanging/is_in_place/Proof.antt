@@ -2,7 +2,8 @@ use Prim.Native.Nat.{_-_, _≤_}
 use mathlib.Core.Path.{_≡_, sym, _∙_}
 use native.Mathlib.Omega.{arith}
 use Rattle.held.specs.Hanging.{every, placed, inPlace}
-use Rattle.held.proofs.Going.{every-step, every-fails, every-none, in-place-is, none-left, free-placed, well-placed, own-slot, above-top}
+use Rattle.held.proofs.Going.{every-step, every-fails, every-none, in-place-is, none-left, free-placed, well-placed, own-slot}
+use Rattle.held.proofs.Going.{above-top}
 use Rattle.held.proofs.Hangs.{none-in-place}
 use borrow.Author.Needs.{needs}
 use Rattle.held.proofs.hanging.is_in_place.Statement.{statement}
@@ -32,7 +33,8 @@ returns-2 c =
     let a = c .before .before .before .before .before .before .args in
     let t = c .before .before .before .loop-test .taken in
     let e = sym (c .before .before .is-ahead-full .ensures) ∙ c .before .if2 .taken in
-    sym (l .inv .1 ∙ every-fails (placed (a .held) (a .next) (a .top)) (l .ahead) t (own-slot (a .held) (a .next) (a .top) (l .ahead - 1) e (c .if3 .taken)))
+    sym (l .inv .1 ∙ every-fails (placed (a .held) (a .next) (a .top)) (l .ahead) t
+    (own-slot (a .held) (a .next) (a .top) (l .ahead - 1) e (c .if3 .taken)))
 
 returns-3 : tie.Need-returns-3 Inv-loop μ-loop
 returns-3 c =
@@ -40,7 +42,8 @@ returns-3 c =
     let a = c .before .before .before .before .before .before .before .args in
     let t = c .before .before .before .before .loop-test .taken in
     let e = sym (c .before .before .before .is-ahead-full .ensures) ∙ c .before .before .if2 .taken in
-    sym (l .inv .1 ∙ every-fails (placed (a .held) (a .next) (a .top)) (l .ahead) t (above-top (a .held) (a .next) (a .top) (l .ahead - 1) e (omega (arith, c .if4 .taken))))
+    sym (l .inv .1 ∙ every-fails (placed (a .held) (a .next) (a .top)) (l .ahead) t
+    (above-top (a .held) (a .next) (a .top) (l .ahead - 1) e (omega (arith, c .if4 .taken))))
 
 returns-4 : tie.Need-returns-4 Inv-loop μ-loop
 returns-4 c =
@@ -48,7 +51,8 @@ returns-4 c =
     let a = c .before .before .before .before .before .before .before .before .args in
     let t = c .before .before .before .before .before .loop-test .taken in
     let e = sym (c .before .before .before .before .is-ahead-full .ensures) ∙ c .before .before .before .if2 .taken in
-    sym (l .inv .1 ∙ every-fails (placed (a .held) (a .next) (a .top)) (l .ahead) t (above-top (a .held) (a .next) (a .top) (l .ahead - 1) e (omega (arith, c .if5 .taken, c .before .if4 .left))))
+    sym (l .inv .1 ∙ every-fails (placed (a .held) (a .next) (a .top)) (l .ahead) t
+    (above-top (a .held) (a .next) (a .top) (l .ahead - 1) e (omega (arith, c .if5 .taken, c .before .if4 .left))))
 
 loop-less : tie.Need-loop-less Inv-loop μ-loop
 loop-less c = search needs
@@ -58,7 +62,8 @@ loop-again c =
     let l = c .before .before .before .before .before .before .loop in
     let a = c .before .before .before .before .before .before .before .before .args in
     let t = c .before .before .before .before .before .loop-test .taken in
-    let p = well-placed (a .held) (a .next) (a .top) (l .ahead - 1) (omega (arith, c .before .before .if3 .left)) (omega (arith, c .if5 .left, c .before .if4 .left)) in
+    let p = well-placed (a .held) (a .next) (a .top) (l .ahead - 1) (omega (arith, c .before .before .if3 .left))
+    (omega (arith, c .if5 .left, c .before .if4 .left)) in
     (omega (arith, l .inv .0), l .inv .1 ∙ every-step (placed (a .held) (a .next) (a .top)) (l .ahead) t p)
 
 loop-less-2 : tie.Need-loop-less-2 Inv-loop μ-loop
@@ -68,8 +73,11 @@ loop-again-2 : tie.Need-loop-again-2 Inv-loop μ-loop
 loop-again-2 c =
     let l = c .before .before .before .loop in
     let a = c .before .before .before .before .before .args in
-    let p = free-placed (a .held) (a .next) (a .top) (l .ahead - 1) (sym (c .before .is-ahead-full .ensures) ∙ c .if2 .left) in
-    (omega (arith, l .inv .0), l .inv .1 ∙ every-step (placed (a .held) (a .next) (a .top)) (l .ahead) (c .before .before .loop-test .taken) p)
+    let p = free-placed (a .held) (a .next) (a .top) (l .ahead - 1) (sym (c .before .is-ahead-full .ensures) ∙ c .if2 .left) in (
+      omega (arith, l .inv .0),
+      l .inv .1 ∙ every-step (placed (a .held) (a .next) (a .top)) (l .ahead) (c .before .before .loop-test .taken)
+          p,
+    )
 
 returns-5 : tie.Need-returns-5 Inv-loop μ-loop
 returns-5 c =

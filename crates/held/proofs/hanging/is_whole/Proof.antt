@@ -31,7 +31,11 @@ returns-3 : tie.Need-returns-3
 unfolding sound
 returns-3 c =
     let a = c .before .before .before .before .before .args in
-    rw (le-leb areaSize (length (now (a .area))) (c .before .before .before .if1 .left), ← c .before .is-in-place .ensures, ← c .fits2 .ensures)
+    rw (
+      le-leb areaSize (length (now (a .area))) (c .before .before .before .if1 .left),
+      ← c .before .is-in-place .ensures,
+      ← c .fits2 .ensures,
+    )
 
 pub is-whole-spec : {M : Type 1} → statement M
 is-whole-spec = tie.close (tie.spec returns returns-2 is-in-place-requires fits-requires returns-3)

@@ -28,17 +28,24 @@ is-full-requires c κs = search needs
 returns-3 : tie.Need-returns-3
 returns-3 c =
     let a = c .before .before .before .before .before .before .before .args in
-    slot-full (a .next) (a .held) (a .number) (now (a .area)) (now (a .message)) (c .before .before .before .before .if1 .left) (c .before .before .before .if2 .left) (ap (isFull (a .held)) (sym (c .before .before .slot-of .ensures .0)) ∙ sym (c .before .is-full .ensures) ∙ c .if3 .taken)
+    slot-full (a .next) (a .held) (a .number) (now (a .area)) (now (a .message)) (c .before .before .before .before .if1 .left)
+    (c .before .before .before .if2 .left) (ap (isFull (a .held)) (sym (c .before .before .slot-of .ensures .0))
+    ∙ sym (c .before .is-full .ensures) ∙ c .if3 .taken)
 
 returns-4 : tie.Need-returns-4
 returns-4 c =
     let a = c .before .before .before .before .before .before .before .before .args in
-    too-long (a .next) (a .held) (a .number) (now (a .area)) (now (a .message)) (c .before .before .before .before .before .if1 .left) (c .before .before .before .before .if2 .left) (ap (isFull (a .held)) (sym (c .before .before .before .slot-of .ensures .0)) ∙ sym (c .before .before .is-full .ensures) ∙ c .before .if3 .left) (c .if4 .taken)
+    too-long (a .next) (a .held) (a .number) (now (a .area)) (now (a .message)) (c .before .before .before .before .before .if1 .left)
+    (c .before .before .before .before .if2 .left) (ap (isFull (a .held)) (sym (c .before .before .before .slot-of .ensures .0))
+    ∙ sym (c .before .before .is-full .ensures) ∙ c .before .if3 .left) (c .if4 .taken)
 
 returns-5 : tie.Need-returns-5
 returns-5 c =
     let a = c .before .before .before .before .before .before .before .before .before .args in
-    no-slots (a .next) (a .held) (a .number) (now (a .area)) (now (a .message)) (c .before .before .before .before .before .before .if1 .left) (c .before .before .before .before .before .if2 .left) (ap (isFull (a .held)) (sym (c .before .before .before .before .slot-of .ensures .0)) ∙ sym (c .before .before .before .is-full .ensures) ∙ c .before .before .if3 .left) (c .before .if4 .left) (c .if5 .taken)
+    no-slots (a .next) (a .held) (a .number) (now (a .area)) (now (a .message))
+    (c .before .before .before .before .before .before .if1 .left) (c .before .before .before .before .before .if2 .left)
+    (ap (isFull (a .held)) (sym (c .before .before .before .before .slot-of .ensures .0))
+    ∙ sym (c .before .before .before .is-full .ensures) ∙ c .before .before .if3 .left) (c .before .if4 .left) (c .if5 .taken)
 
 lay-requires : tie.Need-lay-requires
 lay-requires c κs = search needs
@@ -53,7 +60,13 @@ returns-6 : tie.Need-returns-6
 returns-6 c =
     let a = c .before .before .before .before .before .before .before .before .before .before .before .before .before .before .args in
     let s = c .before .before .before .before .before .before .before .before .before .slot-of .ensures .0 in
-    let l = lies-there (a .next) (a .held) (a .number) (now (a .area)) (now (a .message)) (c .before .before .before .before .before .before .before .before .before .before .before .if1 .left) (c .before .before .before .before .before .before .before .before .before .before .if2 .left) (ap (isFull (a .held)) (sym (c .before .before .before .before .before .before .before .before .before .slot-of .ensures .0)) ∙ sym (c .before .before .before .before .before .before .before .before .is-full .ensures) ∙ c .before .before .before .before .before .before .before .if3 .left) (c .before .before .before .before .before .before .if4 .left) (c .before .before .before .before .before .if5 .left) in
+    let l = lies-there (a .next) (a .held) (a .number) (now (a .area)) (now (a .message))
+    (c .before .before .before .before .before .before .before .before .before .before .before .if1 .left)
+    (c .before .before .before .before .before .before .before .before .before .before .if2 .left)
+    (ap (isFull (a .held)) (sym (c .before .before .before .before .before .before .before .before .before .slot-of .ensures .0))
+    ∙ sym (c .before .before .before .before .before .before .before .before .is-full .ensures)
+    ∙ c .before .before .before .before .before .before .before .if3 .left)
+    (c .before .before .before .before .before .before .if4 .left) (c .before .before .before .before .before .if5 .left) in
     rw (c .fill .ensures, c .before .before .before .lay .ensures, s) l
 
 pub hold-spec : {M : Type 1} → statement M

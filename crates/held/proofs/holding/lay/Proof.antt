@@ -31,7 +31,12 @@ returns : tie.Need-returns
 returns c =
     let a = c .before .before .before .before .before .before .before .before .before .before .args in
     let m = now (a .message) in
-    rw (c .before .before .copy .ensures, c .before .before .before .before .before .before .put2 .ensures, take-all (length m) m (omega arith)) (sets-after (now (a .area)) (1472 * a .slot) 2 (bytesOf 2 (length m)) m (length-bytesOf 2 (length m)))
+    rw (
+      c .before .before .copy .ensures,
+      c .before .before .before .before .before .before .put2 .ensures,
+      take-all (length m) m
+          (omega arith),
+    ) (sets-after (now (a .area)) (1472 * a .slot) 2 (bytesOf 2 (length m)) m (length-bytesOf 2 (length m)))
 
 pub lay-spec : {M : Type 1} → statement M
 lay-spec =

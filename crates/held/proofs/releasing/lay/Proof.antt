@@ -15,7 +15,9 @@ use Rattle.held.proofs.releasing.lay.Tie as tie
 
 abbrev Inv-loop : tie.InvT-loop
 Inv-loop number messages area out₀ at slot₀ left₀ to₀ out slot left to =
-    (left ≤ messages) × (slot < 32) × (slot ≡ slotOf (number + (messages - left))) × (length out ≡ length out₀) × (to + length (frames (heldFrom left area (number + (messages - left)))) ≤ length out₀) × (sets out₀ at (frames (heldFrom messages area number)) ≡ sets out to (frames (heldFrom left area (number + (messages - left)))))
+    (left ≤ messages) × (slot < 32) × (slot ≡ slotOf (number + (messages - left))) × (length out ≡ length out₀)
+    × (to + length (frames (heldFrom left area (number + (messages - left)))) ≤ length out₀)
+    × (sets out₀ at (frames (heldFrom messages area number)) ≡ sets out to (frames (heldFrom left area (number + (messages - left)))))
 
 abbrev μ-loop : tie.MeasureT-loop
 μ-loop number messages area out₀ at slot₀ left₀ to₀ out slot left to = left
@@ -24,19 +26,28 @@ bytes : (c : tie.After-get2 Inv-loop μ-loop) → Bytes (now (c .before .before 
 bytes c i = c .before .before .before .before .before .shared-slice-known .given i .fits
 
 -- the slot states a length that it has room for, and so much goes out
-states : (c : tie.After-get2 Inv-loop μ-loop) → let a = c .before .before .before .before .before .before .args in (c .get2 .result ≡ stated (slotAt (now (a .area)) (slotOf (a .number + (a .messages - c .before .before .loop .left))))) × (c .get2 .result ≤ longest)
+states : (c : tie.After-get2 Inv-loop μ-loop) → let a = c .before .before .before .before .before .before .args in
+    (c .get2 .result ≡ stated (slotAt (now (a .area)) (slotOf (a .number + (a .messages - c .before .before .loop .left)))))
+    × (c .get2 .result ≤ longest)
 states c =
     let l = c .before .before .loop in
     let a = c .before .before .before .before .before .before .args in
-    let e = c .get2 .ensures ∙ ap (λ (i : ℕ). stated (slotAt (now (a .area)) i)) (l .inv .2) in
-    (e, rw e (c .before .before .before .before .before .before .pre .0 .room (a .messages - l .left) (omega (arith, l .inv .0, c .before .loop-test .taken))))
+    let e = c .get2 .ensures ∙ ap (λ (i : ℕ). stated (slotAt (now (a .area)) i)) (l .inv .2) in (
+      e,
+      rw e (c .before .before .before .before .before .before .pre .0 .room (a .messages - l .left)
+          (omega (arith, l .inv .0, c .before .loop-test .taken))),
+    )
 
-sized : (c : tie.After-get2 Inv-loop μ-loop) → let a = c .before .before .before .before .before .before .args in let m = a .number + (a .messages - c .before .before .loop .left) in length (frames (heldFrom (c .before .before .loop .left) (now (a .area)) m)) ≡ 2 + c .get2 .result + length (frames (heldFrom (c .before .before .loop .left - 1) (now (a .area)) (m + 1)))
+sized : (c : tie.After-get2 Inv-loop μ-loop) → let a = c .before .before .before .before .before .before .args in
+    let m = a .number + (a .messages - c .before .before .loop .left) in
+    length (frames (heldFrom (c .before .before .loop .left) (now (a .area)) m)) ≡ 2 + c .get2 .result + length
+    (frames (heldFrom (c .before .before .loop .left - 1) (now (a .area)) (m + 1)))
 sized c =
     let l = c .before .before .loop in
     let a = c .before .before .before .before .before .before .args in
     let s = states c in
-    rw (s .0) (size-step (l .left) (now (a .area)) (bytes c) (a .number + (a .messages - l .left)) (c .before .loop-test .taken) (c .before .before .before .before .before .before .pre .0 .long) (rw (s .0) at (s .1)))
+    rw (s .0) (size-step (l .left) (now (a .area)) (bytes c) (a .number + (a .messages - l .left)) (c .before .loop-test .taken)
+    (c .before .before .before .before .before .before .pre .0 .long) (rw (s .0) at (s .1)))
 
 slot-of-requires : tie.Need-slot-of-requires Inv-loop μ-loop
 slot-of-requires c κs = search needs
@@ -44,7 +55,8 @@ slot-of-requires c κs = search needs
 loop-holds : tie.Need-loop-holds Inv-loop μ-loop
 loop-holds c =
     let a = c .before .before .before .args in
-    rw (begun (a .number) (a .messages)) (omega arith, c .slot-of .ensures .1, c .slot-of .ensures .0, refl, c .before .before .before .pre .1, refl)
+    rw (begun (a .number) (a .messages))
+    (omega arith, c .slot-of .ensures .1, c .slot-of .ensures .0, refl, c .before .before .before .pre .1, refl)
 
 cast-from : tie.Need-cast-from Inv-loop μ-loop
 cast-from c = search needs

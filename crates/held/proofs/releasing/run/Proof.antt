@@ -13,7 +13,8 @@ use Rattle.held.proofs.releasing.run.Tie as tie
 
 abbrev Inv-loop : tie.InvT-loop
 Inv-loop held number slot₀ left₀ slot left =
-    (left ≤ 31) × (slot < 32) × (slot ≡ slotOf (number + (31 - left))) × (run 31 held number ≡ (31 - left) + run left held (number + (31 - left)))
+    (left ≤ 31) × (slot < 32) × (slot ≡ slotOf (number + (31 - left)))
+    × (run 31 held number ≡ (31 - left) + run left held (number + (31 - left)))
 
 abbrev μ-loop : tie.MeasureT-loop
 μ-loop held number slot₀ left₀ slot left = left

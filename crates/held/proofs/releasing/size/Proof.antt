@@ -14,7 +14,8 @@ use Rattle.held.proofs.releasing.size.Tie as tie
 
 abbrev Inv-loop : tie.InvT-loop
 Inv-loop number messages area slot₀ left₀ bytes₀ slot left bytes =
-    (left ≤ messages) × (slot < 32) × (slot ≡ slotOf (number + (messages - left))) × (bytes ≤ 1472 * (messages - left)) × (length (frames (heldFrom messages area number)) ≡ bytes + length (frames (heldFrom left area (number + (messages - left)))))
+    (left ≤ messages) × (slot < 32) × (slot ≡ slotOf (number + (messages - left))) × (bytes ≤ 1472 * (messages - left))
+    × (length (frames (heldFrom messages area number)) ≡ bytes + length (frames (heldFrom left area (number + (messages - left)))))
 
 abbrev μ-loop : tie.MeasureT-loop
 μ-loop number messages area slot₀ left₀ bytes₀ slot left bytes = left
@@ -23,12 +24,17 @@ bytes : (c : tie.After-get2 Inv-loop μ-loop) → Bytes (now (c .before .before 
 bytes c i = c .before .before .before .before .shared-slice-known .given i .fits
 
 -- the slot states a length that it has room for
-states : (c : tie.After-get2 Inv-loop μ-loop) → let a = c .before .before .before .before .before .args in (c .get2 .result ≡ stated (slotAt (now (a .area)) (slotOf (a .number + (a .messages - c .before .before .loop .left))))) × (c .get2 .result ≤ longest)
+states : (c : tie.After-get2 Inv-loop μ-loop) → let a = c .before .before .before .before .before .args in
+    (c .get2 .result ≡ stated (slotAt (now (a .area)) (slotOf (a .number + (a .messages - c .before .before .loop .left)))))
+    × (c .get2 .result ≤ longest)
 states c =
     let l = c .before .before .loop in
     let a = c .before .before .before .before .before .args in
-    let e = c .get2 .ensures ∙ ap (λ (i : ℕ). stated (slotAt (now (a .area)) i)) (l .inv .2) in
-    (e, rw e (c .before .before .before .before .before .pre .room (a .messages - l .left) (omega (arith, l .inv .0, c .before .loop-test .taken))))
+    let e = c .get2 .ensures ∙ ap (λ (i : ℕ). stated (slotAt (now (a .area)) i)) (l .inv .2) in (
+      e,
+      rw e (c .before .before .before .before .before .pre .room (a .messages - l .left)
+          (omega (arith, l .inv .0, c .before .loop-test .taken))),
+    )
 
 slot-of-requires : tie.Need-slot-of-requires Inv-loop μ-loop
 slot-of-requires c κs = search needs
@@ -56,7 +62,13 @@ add-bytes : tie.Need-add-bytes Inv-loop μ-loop
 add-bytes c = search needs
 
 add-bytes-2 : tie.Need-add-bytes-2 Inv-loop μ-loop
-add-bytes-2 c = omega (arith, states c, c .before .before .loop .inv .3, c .before .before .loop .inv .0, c .before .before .before .before .before .pre .few)
+add-bytes-2 c = omega (
+  arith,
+  states c,
+  c .before .before .loop .inv .3,
+  c .before .before .loop .inv .0,
+  c .before .before .before .before .before .pre .few,
+)
 
 after-requires : tie.Need-after-requires Inv-loop μ-loop
 after-requires c κs = search needs
@@ -76,7 +88,8 @@ loop-again c =
     let t = c .before .before .loop-test .taken in
     let k = moved (a .number) (a .messages) (l .left) t (l .inv .0) in
     let s = states (c .before) in
-    let z = size-step (l .left) (now (a .area)) (bytes (c .before)) m t (f .long) (f .room (a .messages - l .left) (omega (arith, l .inv .0))) in (
+    let z = size-step (l .left) (now (a .area)) (bytes (c .before)) m t (f .long)
+    (f .room (a .messages - l .left) (omega (arith, l .inv .0))) in (
       omega (arith, l .inv .0),
       c .after .ensures .1,
       c .after .ensures .0 ∙ ap (λ (i : ℕ). (i + 1) % 32) (l .inv .2) ∙ slot-next m ∙ ap slotOf (sym k),

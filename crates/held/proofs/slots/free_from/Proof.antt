@@ -10,7 +10,8 @@ use Rattle.held.proofs.slots.free_from.Tie as tie
 
 abbrev Inv-loop : tie.InvT-loop
 Inv-loop held number count kept₀ slot₀ left₀ kept slot left =
-    (left ≤ count) × (slot < 32) × (slot ≡ slotOf (number + (count - left))) × (freedFrom count held number ≡ freedFrom left kept (number + (count - left)))
+    (left ≤ count) × (slot < 32) × (slot ≡ slotOf (number + (count - left)))
+    × (freedFrom count held number ≡ freedFrom left kept (number + (count - left)))
 
 abbrev μ-loop : tie.MeasureT-loop
 μ-loop held number count kept₀ slot₀ left₀ kept slot left = left

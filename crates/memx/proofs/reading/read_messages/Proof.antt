@@ -55,7 +55,12 @@ returns-4 : tie.Need-returns-4
 unfolding readMessages
 returns-4 c =
     let e = c .before .before .before .before in
-    rw (whole e, not-false (e .exactly .result) (c .before .before .before .if2 .left), ← c .before .before .get8 .ensures, ← e .before .get2 .ensures) (search tests)
+    rw (
+      whole e,
+      not-false (e .exactly .result) (c .before .before .before .if2 .left),
+      ← c .before .before .get8 .ensures,
+      ← e .before .get2 .ensures,
+    ) (search tests)
 
 sub-if5 : tie.Need-sub-if5
 sub-if5 c = search needs
@@ -68,7 +73,12 @@ unfolding readMessages
 returns-5 c =
     let e = c .before .before .before .before .before in
     let h : 2 ^ 64 - 1 < c .before .before .before .get8 .result + e .before .get2 .result = omega arith in
-    rw (whole e, not-false (e .exactly .result) (c .before .before .before .before .if2 .left), ← c .before .before .before .get8 .ensures, ← e .before .get2 .ensures) (search tests)
+    rw (
+      whole e,
+      not-false (e .exactly .result) (c .before .before .before .before .if2 .left),
+      ← c .before .before .before .get8 .ensures,
+      ← e .before .get2 .ensures,
+    ) (search tests)
 
 get8-requires-2 : tie.Need-get8-requires-2
 get8-requires-2 c κs = search needs
@@ -77,7 +87,8 @@ sub-extra : tie.Need-sub-extra
 sub-extra c = search needs
 
 cast-extra : tie.Need-cast-extra
-cast-extra c = let byte = c .before .before .before .before .before .before .before .before .before .before .shared-slice-known .given 1 .fits in omega arith
+cast-extra c = let byte = c .before .before .before .before .before .before .before .before .before .before .shared-slice-known .given
+    1 .fits in omega arith
 
 returns-6 : tie.Need-returns-6
 unfolding readMessages
@@ -89,7 +100,8 @@ returns-6 c =
     let h : c .before .before .before .before .get8 .result + e .before .get2 .result ≤ 2 ^ 64 - 1 = omega arith in
     let l : headerIn d ≤ length d = omega arith in
     let n = length-cut (countIn d) (drop (blocksAt d) d) (messagesOf (blocksIn d)) (whole-is (blocksIn d) w) in
-    rw (w, ← c .before .before .before .before .get8 .ensures, ← c .get82 .ensures, ← e .before .get2 .ensures) (search (tests, rw (← e .before .get2 .ensures) at n, length-extra d (s .pre .1) l))
+    rw (w, ← c .before .before .before .before .get8 .ensures, ← c .get82 .ensures, ← e .before .get2 .ensures)
+    (search (tests, rw (← e .before .get2 .ensures) at n, length-extra d (s .pre .1) l))
 
 pub read-messages-spec : {M : Type 1} → statement M
 read-messages-spec =

@@ -44,7 +44,8 @@ returns-3 c =
     let d = now (c .before .before .before .before .before .before .before .args .d) in
     let h : n .result ≤ 2 ^ 64 - 2 = omega arith in
     let l : headerIn d ≤ length d = omega arith in
-    rw (← n .ensures, ← c .before .get82 .ensures) (search (tests, length-extra d (c .before .before .before .before .before .before .before .pre .1) l))
+    rw (← n .ensures, ← c .before .get82 .ensures)
+    (search (tests, length-extra d (c .before .before .before .before .before .before .before .pre .1) l))
 
 returns-4 : tie.Need-returns-4
 unfolding readNews
@@ -53,7 +54,8 @@ returns-4 c =
     let d = now (c .before .before .before .before .before .before .before .args .d) in
     let h : n .result ≤ 2 ^ 64 - 2 = omega arith in
     let l : headerIn d ≤ length d = omega arith in
-    rw (← n .ensures, ← c .before .get82 .ensures) (search (tests, length-extra d (c .before .before .before .before .before .before .before .pre .1) l))
+    rw (← n .ensures, ← c .before .get82 .ensures)
+    (search (tests, length-extra d (c .before .before .before .before .before .before .before .pre .1) l))
 
 pub read-news-spec : {M : Type 1} → statement M
 read-news-spec =

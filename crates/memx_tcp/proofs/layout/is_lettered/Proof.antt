@@ -38,7 +38,8 @@ returns-6 : tie.Need-returns-6
 unfolding fieldsOf each valuesOf
 returns-6 c =
     let p = c .before .args .p in
-    sym (otherwise (λ r. passed p (r .fields)) ((100 ∷ []) ∷ (9 ∷ []) ∷ (6 ∷ []) ∷ (2 ∷ []) ∷ (1 ∷ []) ∷ []) refl (λ kind. refl) (p .kind) (c .match .rest))
+    sym (otherwise (λ r. passed p (r .fields)) ((100 ∷ []) ∷ (9 ∷ []) ∷ (6 ∷ []) ∷ (2 ∷ []) ∷ (1 ∷ []) ∷ []) refl (λ kind. refl) (p .kind)
+    (c .match .rest))
 
 pub is-lettered-spec : {M : Type 1} → statement M
 is-lettered-spec =

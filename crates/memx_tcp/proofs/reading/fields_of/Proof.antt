@@ -18,7 +18,8 @@ shared-slice-read-kind c = search needs
 
 get8-requires : tie.Need-get8-requires
 get8-requires c κs =
-    let h = by-keys (Has 8) (3 ∷ 102 ∷ []) (kindIn (now (c .before .before .before .args .d))) (has .2, (has .11, tt)) (c .match .keys2) in omega arith
+    let h = by-keys (Has 8) (3 ∷ 102 ∷ []) (kindIn (now (c .before .before .before .args .d))) (has .2, (has .11, tt)) (c .match .keys2) in
+    omega arith
 
 fields-requires : tie.Need-fields-requires
 fields-requires c κs = search needs
@@ -29,7 +30,8 @@ get4-requires c κs =
 
 get8-requires-2 : tie.Need-get8-requires-2
 get8-requires-2 c κs =
-    let h = by-keys (Has 12) (5 ∷ []) (kindIn (now (c .before .before .before .before .args .d))) (has .3, tt) (c .before .match .keys3) in omega arith
+    let h = by-keys (Has 12) (5 ∷ []) (kindIn (now (c .before .before .before .before .args .d))) (has .3, tt) (c .before .match .keys3) in
+    omega arith
 
 fields-requires-2 : tie.Need-fields-requires-2
 fields-requires-2 c κs = search needs
@@ -47,7 +49,8 @@ get8-requires-3 c κs =
 
 get8-requires-4 : tie.Need-get8-requires-4
 get8-requires-4 c κs =
-    let h = by-keys (Has 16) (8 ∷ []) (kindIn (now (c .before .before .before .before .args .d))) (has .6, tt) (c .before .match .keys5) in omega arith
+    let h = by-keys (Has 16) (8 ∷ []) (kindIn (now (c .before .before .before .before .args .d))) (has .6, tt) (c .before .match .keys5) in
+    omega arith
 
 fields-requires-4 : tie.Need-fields-requires-4
 fields-requires-4 c κs = search needs
@@ -65,11 +68,13 @@ get4-requires-3 c κs =
 
 get8-requires-6 : tie.Need-get8-requires-6
 get8-requires-6 c κs =
-    let h = by-keys (Has 20) (101 ∷ []) (kindIn (now (c .before .before .before .before .args .d))) (has .10, tt) (c .before .match .keys7) in omega arith
+    let h = by-keys (Has 20) (101 ∷ []) (kindIn (now (c .before .before .before .before .args .d))) (has .10, tt)
+    (c .before .match .keys7) in omega arith
 
 get8-requires-7 : tie.Need-get8-requires-7
 get8-requires-7 c κs =
-    let h = by-keys (Has 20) (101 ∷ []) (kindIn (now (c .before .before .before .before .before .args .d))) (has .10, tt) (c .before .before .match .keys7) in omega arith
+    let h = by-keys (Has 20) (101 ∷ []) (kindIn (now (c .before .before .before .before .before .args .d))) (has .10, tt)
+    (c .before .before .match .keys7) in omega arith
 
 fields-requires-6 : tie.Need-fields-requires-6
 fields-requires-6 c κs = search needs
@@ -80,7 +85,8 @@ get8-requires-8 c κs =
 
 get8-requires-9 : tie.Need-get8-requires-9
 get8-requires-9 c κs =
-    let h = by-keys (Has 16) (103 ∷ []) (kindIn (now (c .before .before .before .before .args .d))) (has .12, tt) (c .before .match .keys8) in omega arith
+    let h = by-keys (Has 16) (103 ∷ []) (kindIn (now (c .before .before .before .before .args .d))) (has .12, tt)
+    (c .before .match .keys8) in omega arith
 
 fields-requires-7 : tie.Need-fields-requires-7
 fields-requires-7 c κs = search needs
@@ -107,13 +113,15 @@ returns : tie.Need-returns
 returns c =
     let s = now (c .before .before .before .before .before .args .d) in
     rw (c .fields .ensures, c .before .get8 .ensures)
-    (by-keys (λ k. Says s (fields k 0 0 (first s 8) 0 0) k) (3 ∷ 102 ∷ []) (kindIn s) (places.says-session s .0, (places.says-session s .1, tt)) (c .before .before .match .keys2))
+    (by-keys (λ k. Says s (fields k 0 0 (first s 8) 0 0) k) (3 ∷ 102 ∷ []) (kindIn s)
+    (places.says-session s .0, (places.says-session s .1, tt)) (c .before .before .match .keys2))
 
 returns-2 : tie.Need-returns-2
 returns-2 c =
     let s = now (c .before .before .before .before .before .before .args .d) in
     rw (c .fields2 .ensures, c .before .get82 .ensures, c .before .before .get4 .ensures)
-    (by-keys (λ k. Says s (fields k 0 (second s 4) 0 (first s 8) 0) k) (5 ∷ []) (kindIn s) (places.says-replay-begin s, tt) (c .before .before .before .match .keys3))
+    (by-keys (λ k. Says s (fields k 0 (second s 4) 0 (first s 8) 0) k) (5 ∷ []) (kindIn s) (places.says-replay-begin s, tt)
+    (c .before .before .before .match .keys3))
 
 returns-3 : tie.Need-returns-3
 returns-3 c =
@@ -125,25 +133,29 @@ returns-4 : tie.Need-returns-4
 returns-4 c =
     let s = now (c .before .before .before .before .before .before .args .d) in
     rw (c .fields4 .ensures, c .before .get84 .ensures, c .before .before .get83 .ensures)
-    (by-keys (λ k. Says s (fields k 0 0 0 (first s 8) (second s 8)) k) (8 ∷ []) (kindIn s) (places.says-stream-begin s, tt) (c .before .before .before .match .keys5))
+    (by-keys (λ k. Says s (fields k 0 0 0 (first s 8) (second s 8)) k) (8 ∷ []) (kindIn s) (places.says-stream-begin s, tt)
+    (c .before .before .before .match .keys5))
 
 returns-5 : tie.Need-returns-5
 returns-5 c =
     let s = now (c .before .before .before .before .before .args .d) in
     rw (c .fields5 .ensures, c .before .get85 .ensures)
-    (by-keys (λ k. Says s (fields k 0 0 0 (first s 8) 0) k) (10 ∷ []) (kindIn s) (places.says-total s, tt) (c .before .before .match .keys6))
+    (by-keys (λ k. Says s (fields k 0 0 0 (first s 8) 0) k) (10 ∷ []) (kindIn s) (places.says-total s, tt)
+    (c .before .before .match .keys6))
 
 returns-6 : tie.Need-returns-6
 returns-6 c =
     let s = now (c .before .before .before .before .before .before .before .args .d) in
     rw (c .fields6 .ensures, c .before .get87 .ensures, c .before .before .get86 .ensures, c .before .before .before .get43 .ensures)
-    (by-keys (λ k. Says s (fields k 0 (third s 4) (first s 8) (second s 8) 0) k) (101 ∷ []) (kindIn s) (places.says-replay s, tt) (c .before .before .before .before .match .keys7))
+    (by-keys (λ k. Says s (fields k 0 (third s 4) (first s 8) (second s 8) 0) k) (101 ∷ []) (kindIn s) (places.says-replay s, tt)
+    (c .before .before .before .before .match .keys7))
 
 returns-7 : tie.Need-returns-7
 returns-7 c =
     let s = now (c .before .before .before .before .before .before .args .d) in
     rw (c .fields7 .ensures, c .before .get89 .ensures, c .before .before .get88 .ensures)
-    (by-keys (λ k. Says s (fields k 0 0 (first s 8) (second s 8) 0) k) (103 ∷ []) (kindIn s) (places.says-stream s, tt) (c .before .before .before .match .keys8))
+    (by-keys (λ k. Says s (fields k 0 0 (first s 8) (second s 8) 0) k) (103 ∷ []) (kindIn s) (places.says-stream s, tt)
+    (c .before .before .before .match .keys8))
 
 returns-8 : tie.Need-returns-8
 returns-8 c =

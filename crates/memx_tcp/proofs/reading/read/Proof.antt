@@ -21,13 +21,16 @@ use Rattle.memx_tcp.proofs.reading.read.Statement.{statement}
 use Rattle.memx_tcp.proofs.reading.read.Tie as tie
 
 -- a test of the fields by name is the test of the values
-tested : (test : Field → ℕ → Bool) (s : List ℕ) (p : Fields) (b : Bool) → p ≡ fieldsBy (kindIn s) (packetIn s .values) → b ≡ each test (fieldsOf (p .kind)) (valuesOf p) → b ≡ each test (fieldsIn s) (packetIn s .values)
+tested : (test : Field → ℕ → Bool) (s : List ℕ) (p : Fields) (b : Bool) → p ≡ fieldsBy (kindIn s) (packetIn s .values)
+    → b ≡ each test (fieldsOf (p .kind)) (valuesOf p) → b ≡ each test (fieldsIn s) (packetIn s .values)
 tested test s p b e h =
     let a = named-again (kindIn s) (drop headerSize s) in
     h ∙ rw (e, a .1, a .0)
 
 -- a packet that passed every check
-passed : (s : List ℕ) → 0 < length s → length s ≤ limit → known (kindIn s) ≡ true → framed s ≡ true → each lettered (fieldsIn s) (packetIn s .values) ≡ true → each numbered (fieldsIn s) (packetIn s .values) ≡ true → read s ≡ taken (packetIn s)
+passed : (s : List ℕ) → 0 < length s → length s ≤ limit → known (kindIn s) ≡ true → framed s ≡ true
+    → each lettered (fieldsIn s) (packetIn s .values) ≡ true → each numbered (fieldsIn s) (packetIn s .values) ≡ true
+    → read s ≡ taken (packetIn s)
 unfolding read
 passed s a b k f l n = rw (ne-eqb (length s) 0 (λ e. omega arith), le-leb (length s) limit b, k, f, l, n)
 
@@ -74,7 +77,9 @@ returns-5 c =
     rw (k, f) (search tests)
 
 fields-of-requires : tie.Need-fields-of-requires
-fields-of-requires c κs = framed-says (now (c .before .before .before .before .before .before .before .before .before .before .before .args .d)) (held (c .before .is-framed .ensures) (c .if5 .left)) .fixed
+fields-of-requires c κs = framed-says (now
+    (c .before .before .before .before .before .before .before .before .before .before .before .args .d))
+    (held (c .before .is-framed .ensures) (c .if5 .left)) .fixed
 
 is-lettered-requires : tie.Need-is-lettered-requires
 is-lettered-requires c κs = search needs
@@ -82,8 +87,10 @@ is-lettered-requires c κs = search needs
 returns-6 : tie.Need-returns-6
 unfolding read
 returns-6 c =
-    let s = now (c .before .before .before .before .before .before .before .before .before .before .before .before .before .before .args .d) in
-    let k = held (c .before .before .before .before .before .before .before .before .is-known .ensures) (c .before .before .before .before .before .before .before .if4 .left) in
+    let s = now (c .before .before .before .before .before .before .before .before .before .before .before .before .before .before .args .d)
+    in
+    let k = held (c .before .before .before .before .before .before .before .before .is-known .ensures)
+    (c .before .before .before .before .before .before .before .if4 .left) in
     let f = held (c .before .before .before .before .is-framed .ensures) (c .before .before .before .if5 .left) in
     let l = failed (tested lettered s _ _ (c .before .before .fields-of .ensures) (c .before .is-lettered .ensures)) (c .if6 .taken) in
     rw (k, f, l) (search tests)
@@ -94,21 +101,33 @@ is-numbered-requires c κs = search needs
 returns-7 : tie.Need-returns-7
 unfolding read
 returns-7 c =
-    let s = now (c .before .before .before .before .before .before .before .before .before .before .before .before .before .before .before .before .args .d) in
-    let k = held (c .before .before .before .before .before .before .before .before .before .before .is-known .ensures) (c .before .before .before .before .before .before .before .before .before .if4 .left) in
-    let f = held (c .before .before .before .before .before .before .is-framed .ensures) (c .before .before .before .before .before .if5 .left) in
-    let l = held (tested lettered s _ _ (c .before .before .before .before .fields-of .ensures) (c .before .before .before .is-lettered .ensures)) (c .before .before .if6 .left) in
-    let n = failed (tested numbered s _ _ (c .before .before .before .before .fields-of .ensures) (c .before .is-numbered .ensures)) (c .if7 .taken) in
+    let s = now
+    (c .before .before .before .before .before .before .before .before .before .before .before .before .before .before .before .before .args .d) in
+    let k = held (c .before .before .before .before .before .before .before .before .before .before .is-known .ensures)
+    (c .before .before .before .before .before .before .before .before .before .if4 .left) in
+    let f = held (c .before .before .before .before .before .before .is-framed .ensures)
+    (c .before .before .before .before .before .if5 .left) in
+    let l = held (tested lettered s _ _ (c .before .before .before .before .fields-of .ensures)
+    (c .before .before .before .is-lettered .ensures)) (c .before .before .if6 .left) in
+    let n = failed (tested numbered s _ _ (c .before .before .before .before .fields-of .ensures) (c .before .is-numbered .ensures))
+    (c .if7 .taken) in
     rw (k, f, l, n) (search tests)
 
 -- past the last check
-whole : (c : tie.Else7) → let s = now (c .before .before .before .before .before .before .before .before .before .before .before .before .before .before .before .before .args .d) in Framed s × (read s ≡ taken (packetIn s))
+whole : (c : tie.Else7)
+    → let s =
+    now (c .before .before .before .before .before .before .before .before .before .before .before .before .before .before .before .before .args .d) in Framed s × (read s ≡ taken (packetIn s))
 whole c =
-    let s = now (c .before .before .before .before .before .before .before .before .before .before .before .before .before .before .before .before .args .d) in
-    let k = held (c .before .before .before .before .before .before .before .before .before .before .is-known .ensures) (c .before .before .before .before .before .before .before .before .before .if4 .left) in
-    let f = held (c .before .before .before .before .before .before .is-framed .ensures) (c .before .before .before .before .before .if5 .left) in
-    let l = held (tested lettered s _ _ (c .before .before .before .before .fields-of .ensures) (c .before .before .before .is-lettered .ensures)) (c .before .before .if6 .left) in
-    let n = held (tested numbered s _ _ (c .before .before .before .before .fields-of .ensures) (c .before .is-numbered .ensures)) (c .if7 .left) in
+    let s = now
+    (c .before .before .before .before .before .before .before .before .before .before .before .before .before .before .before .before .args .d) in
+    let k = held (c .before .before .before .before .before .before .before .before .before .before .is-known .ensures)
+    (c .before .before .before .before .before .before .before .before .before .if4 .left) in
+    let f = held (c .before .before .before .before .before .before .is-framed .ensures)
+    (c .before .before .before .before .before .if5 .left) in
+    let l = held (tested lettered s _ _ (c .before .before .before .before .fields-of .ensures)
+    (c .before .before .before .is-lettered .ensures)) (c .before .before .if6 .left) in
+    let n = held (tested numbered s _ _ (c .before .before .before .before .fields-of .ensures) (c .before .is-numbered .ensures))
+    (c .if7 .left) in
     (framed-says s f, passed s (omega arith) (omega arith) k f l n)
 
 add-end : tie.Need-add-end
@@ -125,19 +144,37 @@ sub-length c =
 
 returns-8 : tie.Need-returns-8
 returns-8 c =
-    let s = now (c .before .before .before .before .before .before .before .before .before .before .before .before .before .before .before .before .before .args .d) in
+    let s = now
+    (c .before .before .before .before .before .before .before .before .before .before .before .before .before .before .before .before .before .args .d) in
     let w = whole (c .before) in
-    let fixed : c .before .before .before .before .before .before .before .before .before .fixed .result ≡ size (fieldsIn s) = c .before .before .before .before .before .before .before .before .before .fixed .ensures in
-    let most : c .before .before .before .before .before .before .before .before .most .result ≡ mostOf (kindIn s) = c .before .before .before .before .before .before .before .before .most .ensures in
-    rw (w .1, ← fixed, length-drop, eq-eqb (mostOf (kindIn s)) 0 (rw most at (c .if8 .taken)), c .before .before .before .before .before .fields-of .ensures)
+    let fixed : c .before .before .before .before .before .before .before .before .before .fixed .result ≡ size (fieldsIn s) =
+    c .before .before .before .before .before .before .before .before .before .fixed .ensures in
+    let most : c .before .before .before .before .before .before .before .before .most .result ≡ mostOf (kindIn s) =
+    c .before .before .before .before .before .before .before .before .most .ensures in
+    rw (
+      w .1,
+      ← fixed,
+      length-drop,
+      eq-eqb (mostOf (kindIn s)) 0 (rw most at (c .if8 .taken)),
+      c .before .before .before .before .before .fields-of .ensures,
+    )
 
 returns-9 : tie.Need-returns-9
 returns-9 c =
-    let s = now (c .before .before .before .before .before .before .before .before .before .before .before .before .before .before .before .before .before .args .d) in
+    let s = now
+    (c .before .before .before .before .before .before .before .before .before .before .before .before .before .before .before .before .before .args .d) in
     let w = whole (c .before) in
-    let fixed : c .before .before .before .before .before .before .before .before .before .fixed .result ≡ size (fieldsIn s) = c .before .before .before .before .before .before .before .before .before .fixed .ensures in
-    let most : c .before .before .before .before .before .before .before .before .most .result ≡ mostOf (kindIn s) = c .before .before .before .before .before .before .before .before .most .ensures in
-    rw (w .1, ← fixed, length-drop, ne-eqb (mostOf (kindIn s)) 0 (rw most at (c .if8 .left)), c .before .before .before .before .before .fields-of .ensures)
+    let fixed : c .before .before .before .before .before .before .before .before .before .fixed .result ≡ size (fieldsIn s) =
+    c .before .before .before .before .before .before .before .before .before .fixed .ensures in
+    let most : c .before .before .before .before .before .before .before .before .most .result ≡ mostOf (kindIn s) =
+    c .before .before .before .before .before .before .before .before .most .ensures in
+    rw (
+      w .1,
+      ← fixed,
+      length-drop,
+      ne-eqb (mostOf (kindIn s)) 0 (rw most at (c .if8 .left)),
+      c .before .before .before .before .before .fields-of .ensures,
+    )
 
 pub read-spec : {M : Type 1} → statement M
 read-spec =

@@ -7,7 +7,8 @@ use lib.ListN.{set}
 use Rattle.memx_tcp.specs.Writing.{valuesOf}
 use Rattle.memx_tcp.proofs.Every.{by-keys, under-logins, over-logins, by-logins}
 use Rattle.memx_tcp.proofs.Places.{Has, has, no-fields-in}
-use Rattle.memx_tcp.proofs.Stored.{Lays, one, two, three, lays-letter, lays-session, lays-count, lays-total, lays-replay-begin, lays-stream-begin, lays-replay, lays-stream, lays-nothing}
+use Rattle.memx_tcp.proofs.Stored.{Lays, one, two, three, lays-letter, lays-session, lays-count, lays-total, lays-replay-begin}
+use Rattle.memx_tcp.proofs.Stored.{lays-stream-begin, lays-replay, lays-stream, lays-nothing}
 use borrow.Author.Needs.{needs}
 use Rattle.memx_tcp.proofs.writing.put_fields.Statement.{statement}
 use Rattle.memx_tcp.proofs.writing.put_fields.Tie as tie
@@ -24,7 +25,8 @@ put8-requires-2 c κs =
 
 put4-requires : tie.Need-put4-requires
 put4-requires c κs =
-    let h = by-keys (Has 12) (5 ∷ []) (c .before .before .before .before .before .before .before .args .p .kind) (has .3, tt) (c .before .before .before .before .before .match .keys3) in
+    let h = by-keys (Has 12) (5 ∷ []) (c .before .before .before .before .before .before .before .args .p .kind) (has .3, tt)
+    (c .before .before .before .before .before .match .keys3) in
     omega arith
 
 put4-requires-2 : tie.Need-put4-requires-2
@@ -39,7 +41,8 @@ put8-requires-3 c κs =
 
 put8-requires-4 : tie.Need-put8-requires-4
 put8-requires-4 c κs =
-    let h = by-keys (Has 16) (8 ∷ []) (c .before .before .before .before .before .before .before .args .p .kind) (has .6, tt) (c .before .before .before .before .before .match .keys5) in
+    let h = by-keys (Has 16) (8 ∷ []) (c .before .before .before .before .before .before .before .args .p .kind) (has .6, tt)
+    (c .before .before .before .before .before .match .keys5) in
     omega arith
 
 put8-requires-5 : tie.Need-put8-requires-5
@@ -54,12 +57,15 @@ put8-requires-6 c κs =
 
 put8-requires-7 : tie.Need-put8-requires-7
 put8-requires-7 c κs =
-    let h = by-keys (Has 20) (101 ∷ []) (c .before .before .before .before .before .before .before .args .p .kind) (has .10, tt) (c .before .before .before .before .before .match .keys7) in
+    let h = by-keys (Has 20) (101 ∷ []) (c .before .before .before .before .before .before .before .args .p .kind) (has .10, tt)
+    (c .before .before .before .before .before .match .keys7) in
     omega arith
 
 put4-requires-3 : tie.Need-put4-requires-3
 put4-requires-3 c κs =
-    let h = by-keys (Has 20) (101 ∷ []) (c .before .before .before .before .before .before .before .before .before .before .before .args .p .kind) (has .10, tt) (c .before .before .before .before .before .before .before .before .before .match .keys7) in
+    let h = by-keys (Has 20) (101 ∷ [])
+    (c .before .before .before .before .before .before .before .before .before .before .before .args .p .kind) (has .10, tt)
+    (c .before .before .before .before .before .before .before .before .before .match .keys7) in
     omega arith
 
 put8-requires-8 : tie.Need-put8-requires-8
@@ -69,7 +75,8 @@ put8-requires-8 c κs =
 
 put8-requires-9 : tie.Need-put8-requires-9
 put8-requires-9 c κs =
-    let h = by-keys (Has 16) (103 ∷ []) (c .before .before .before .before .before .before .before .args .p .kind) (has .12, tt) (c .before .before .before .before .before .match .keys8) in
+    let h = by-keys (Has 16) (103 ∷ []) (c .before .before .before .before .before .before .before .args .p .kind) (has .12, tt)
+    (c .before .before .before .before .before .match .keys8) in
     omega arith
 
 -- a type with a letter, which the match finds in two ways
@@ -93,7 +100,9 @@ returns c =
     let a = c .before .before .before .before .before .before .args in
     let out = now (a .out) in
     let p = a .p in
-    rw (c .before .before .put8 .ensures) (by-keys (Lays out p (one out p 8 (p .session .0))) (3 ∷ 102 ∷ []) (p .kind) (lays-session out p .0, (lays-session out p .1, tt)) (c .before .before .before .before .match .keys2))
+    rw (c .before .before .put8 .ensures)
+    (by-keys (Lays out p (one out p 8 (p .session .0))) (3 ∷ 102 ∷ []) (p .kind) (lays-session out p .0, (lays-session out p .1, tt))
+    (c .before .before .before .before .match .keys2))
 
 same-length-2 : tie.Need-same-length-2
 same-length-2 c = search needs
@@ -104,7 +113,9 @@ returns-2 c =
     let a = c .before .before .before .before .before .before .before .before .before .before .args in
     let out = now (a .out) in
     let p = a .p in
-    rw (c .before .before .put4 .ensures, c .before .before .before .before .before .before .put82 .ensures) (by-keys (Lays out p (two out p (p .number .0) 4 (p .count))) (5 ∷ []) (p .kind) (lays-replay-begin out p, tt) (c .before .before .before .before .before .before .before .before .match .keys3))
+    rw (c .before .before .put4 .ensures, c .before .before .before .before .before .before .put82 .ensures)
+    (by-keys (Lays out p (two out p (p .number .0) 4 (p .count))) (5 ∷ []) (p .kind) (lays-replay-begin out p, tt)
+    (c .before .before .before .before .before .before .before .before .match .keys3))
 
 same-length-3 : tie.Need-same-length-3
 same-length-3 c = search needs
@@ -115,7 +126,8 @@ returns-3 c =
     let a = c .before .before .before .before .before .before .args in
     let out = now (a .out) in
     let p = a .p in
-    rw (c .before .before .put42 .ensures) (by-keys (Lays out p (one out p 4 (p .count))) (7 ∷ []) (p .kind) (lays-count out p, tt) (c .before .before .before .before .match .keys4))
+    rw (c .before .before .put42 .ensures) (by-keys (Lays out p (one out p 4 (p .count))) (7 ∷ []) (p .kind) (lays-count out p, tt)
+    (c .before .before .before .before .match .keys4))
 
 same-length-4 : tie.Need-same-length-4
 same-length-4 c = search needs
@@ -126,7 +138,9 @@ returns-4 c =
     let a = c .before .before .before .before .before .before .before .before .before .before .args in
     let out = now (a .out) in
     let p = a .p in
-    rw (c .before .before .put84 .ensures, c .before .before .before .before .before .before .put83 .ensures) (by-keys (Lays out p (two out p (p .number .0) 8 (p .top .0))) (8 ∷ []) (p .kind) (lays-stream-begin out p, tt) (c .before .before .before .before .before .before .before .before .match .keys5))
+    rw (c .before .before .put84 .ensures, c .before .before .before .before .before .before .put83 .ensures)
+    (by-keys (Lays out p (two out p (p .number .0) 8 (p .top .0))) (8 ∷ []) (p .kind) (lays-stream-begin out p, tt)
+    (c .before .before .before .before .before .before .before .before .match .keys5))
 
 same-length-5 : tie.Need-same-length-5
 same-length-5 c = search needs
@@ -137,7 +151,8 @@ returns-5 c =
     let a = c .before .before .before .before .before .before .args in
     let out = now (a .out) in
     let p = a .p in
-    rw (c .before .before .put85 .ensures) (by-keys (Lays out p (one out p 8 (p .number .0))) (10 ∷ []) (p .kind) (lays-total out p, tt) (c .before .before .before .before .match .keys6))
+    rw (c .before .before .put85 .ensures) (by-keys (Lays out p (one out p 8 (p .number .0))) (10 ∷ []) (p .kind) (lays-total out p, tt)
+    (c .before .before .before .before .match .keys6))
 
 same-length-6 : tie.Need-same-length-6
 same-length-6 c = search needs
@@ -148,7 +163,13 @@ returns-6 c =
     let a = c .before .before .before .before .before .before .before .before .before .before .before .before .before .before .args in
     let out = now (a .out) in
     let p = a .p in
-    rw (c .before .before .put43 .ensures, c .before .before .before .before .before .before .put87 .ensures, c .before .before .before .before .before .before .before .before .before .before .put86 .ensures) (by-keys (Lays out p (three out p (p .session .0) (p .number .0) 4 (p .count))) (101 ∷ []) (p .kind) (lays-replay out p, tt) (c .before .before .before .before .before .before .before .before .before .before .before .before .match .keys7))
+    rw (
+      c .before .before .put43 .ensures,
+      c .before .before .before .before .before .before .put87 .ensures,
+      c .before .before .before .before .before .before .before .before .before .before .put86 .ensures,
+    )
+    (by-keys (Lays out p (three out p (p .session .0) (p .number .0) 4 (p .count))) (101 ∷ []) (p .kind) (lays-replay out p, tt)
+    (c .before .before .before .before .before .before .before .before .before .before .before .before .match .keys7))
 
 same-length-7 : tie.Need-same-length-7
 same-length-7 c = search needs
@@ -159,7 +180,9 @@ returns-7 c =
     let a = c .before .before .before .before .before .before .before .before .before .before .args in
     let out = now (a .out) in
     let p = a .p in
-    rw (c .before .before .put89 .ensures, c .before .before .before .before .before .before .put88 .ensures) (by-keys (Lays out p (two out p (p .session .0) 8 (p .number .0))) (103 ∷ []) (p .kind) (lays-stream out p, tt) (c .before .before .before .before .before .before .before .before .match .keys8))
+    rw (c .before .before .put89 .ensures, c .before .before .before .before .before .before .put88 .ensures)
+    (by-keys (Lays out p (two out p (p .session .0) 8 (p .number .0))) (103 ∷ []) (p .kind) (lays-stream out p, tt)
+    (c .before .before .before .before .before .before .before .before .match .keys8))
 
 returns-8 : tie.Need-returns-8
 unfolding valuesOf

@@ -61,7 +61,12 @@ returns-2 c =
     let n = length (now (s .args .body)) in
     let e : c .before .before .before .fixed .result ≡ size (fieldsOf k) = c .before .before .before .fixed .ensures in
     let h = short k in
-    refuses _ _ 3 (rw (verdict s, le-leb (headerSize + size (fieldsOf k) + n) limit (omega arith), failed (c .before .is-known .ensures) (c .if2 .taken)))
+    refuses _ _ 3 (rw (
+      verdict s,
+      le-leb (headerSize + size (fieldsOf k) + n) limit (omega arith),
+      failed (c .before .is-known .ensures)
+          (c .if2 .taken),
+    ))
 
 most-requires : tie.Need-most-requires
 most-requires c κs = search needs
@@ -71,10 +76,17 @@ returns-3 c =
     let s = c .before .before .before .before .before .before .before .before in
     let k = s .args .p .kind in
     let n = length (now (s .args .body)) in
-    let e : c .before .before .before .before .before .fixed .result ≡ size (fieldsOf k) = c .before .before .before .before .before .fixed .ensures in
+    let e : c .before .before .before .before .before .fixed .result ≡ size (fieldsOf k) =
+    c .before .before .before .before .before .fixed .ensures in
     let h = short k in
     let m : c .before .most .result ≡ mostOf k = c .before .most .ensures in
-    refuses _ _ 4 (rw (verdict s, le-leb (headerSize + size (fieldsOf k) + n) limit (omega arith), held (c .before .before .before .is-known .ensures) (c .before .before .if2 .left), lt-leb n (mostOf k) (omega arith)))
+    refuses _ _ 4 (rw (
+      verdict s,
+      le-leb (headerSize + size (fieldsOf k) + n) limit (omega arith),
+      held
+          (c .before .before .before .is-known .ensures) (c .before .before .if2 .left),
+      lt-leb n (mostOf k) (omega arith),
+    ))
 
 is-lettered-requires : tie.Need-is-lettered-requires
 is-lettered-requires c κs = search needs
@@ -84,10 +96,19 @@ returns-4 c =
     let s = c .before .before .before .before .before .before .before .before .before .before in
     let k = s .args .p .kind in
     let n = length (now (s .args .body)) in
-    let e : c .before .before .before .before .before .before .before .fixed .result ≡ size (fieldsOf k) = c .before .before .before .before .before .before .before .fixed .ensures in
+    let e : c .before .before .before .before .before .before .before .fixed .result ≡ size (fieldsOf k) =
+    c .before .before .before .before .before .before .before .fixed .ensures in
     let h = short k in
     let m : c .before .before .before .most .result ≡ mostOf k = c .before .before .before .most .ensures in
-    refuses _ _ 5 (rw (verdict s, le-leb (headerSize + size (fieldsOf k) + n) limit (omega arith), held (c .before .before .before .before .before .is-known .ensures) (c .before .before .before .before .if2 .left), le-leb n (mostOf k) (omega arith), failed (c .before .is-lettered .ensures) (c .if4 .taken)))
+    refuses _ _ 5 (rw (
+      verdict s,
+      le-leb (headerSize + size (fieldsOf k) + n) limit (omega arith),
+      held
+          (c .before .before .before .before .before .is-known .ensures) (c .before .before .before .before .if2 .left),
+      le-leb n (mostOf k)
+          (omega arith),
+      failed (c .before .is-lettered .ensures) (c .if4 .taken),
+    ))
 
 is-numbered-requires : tie.Need-is-numbered-requires
 is-numbered-requires c κs = search needs
@@ -97,34 +118,65 @@ returns-5 c =
     let s = c .before .before .before .before .before .before .before .before .before .before .before .before in
     let k = s .args .p .kind in
     let n = length (now (s .args .body)) in
-    let e : c .before .before .before .before .before .before .before .before .before .fixed .result ≡ size (fieldsOf k) = c .before .before .before .before .before .before .before .before .before .fixed .ensures in
+    let e : c .before .before .before .before .before .before .before .before .before .fixed .result ≡ size (fieldsOf k) =
+    c .before .before .before .before .before .before .before .before .before .fixed .ensures in
     let h = short k in
     let m : c .before .before .before .before .before .most .result ≡ mostOf k = c .before .before .before .before .before .most .ensures in
-    refuses _ _ 6 (rw (verdict s, le-leb (headerSize + size (fieldsOf k) + n) limit (omega arith), held (c .before .before .before .before .before .before .before .is-known .ensures) (c .before .before .before .before .before .before .if2 .left), le-leb n (mostOf k) (omega arith), held (c .before .before .before .is-lettered .ensures) (c .before .before .if4 .left), failed (c .before .is-numbered .ensures) (c .if5 .taken)))
+    refuses _ _ 6 (rw (
+      verdict s,
+      le-leb (headerSize + size (fieldsOf k) + n) limit (omega arith),
+      held
+          (c .before .before .before .before .before .before .before .is-known .ensures)
+          (c .before .before .before .before .before .before .if2 .left),
+      le-leb n (mostOf k) (omega arith),
+      held
+          (c .before .before .before .is-lettered .ensures) (c .before .before .if4 .left),
+      failed (c .before .is-numbered .ensures)
+          (c .if5 .taken),
+    ))
 
 -- past the last test the packet is taken
-passed : (c : tie.Else5) → read (write (laidOut (c .before .before .before .before .before .before .before .before .before .before .before .before))) ≡ taken (laidOut (c .before .before .before .before .before .before .before .before .before .before .before .before))
+passed : (c : tie.Else5) → read (write (laidOut
+    (c .before .before .before .before .before .before .before .before .before .before .before .before))) ≡ taken
+    (laidOut (c .before .before .before .before .before .before .before .before .before .before .before .before))
 passed c =
     let s = c .before .before .before .before .before .before .before .before .before .before .before .before in
     let k = s .args .p .kind in
     let n = length (now (s .args .body)) in
-    let e : c .before .before .before .before .before .before .before .before .before .fixed .result ≡ size (fieldsOf k) = c .before .before .before .before .before .before .before .before .before .fixed .ensures in
+    let e : c .before .before .before .before .before .before .before .before .before .fixed .result ≡ size (fieldsOf k) =
+    c .before .before .before .before .before .before .before .before .before .fixed .ensures in
     let h = short k in
     let m : c .before .before .before .before .before .most .result ≡ mostOf k = c .before .before .before .before .before .most .ensures in
-    rw (verdict s, le-leb (headerSize + size (fieldsOf k) + n) limit (omega arith), held (c .before .before .before .before .before .before .before .is-known .ensures) (c .before .before .before .before .before .before .if2 .left), le-leb n (mostOf k) (omega arith), held (c .before .before .before .is-lettered .ensures) (c .before .before .if4 .left), held (c .before .is-numbered .ensures) (c .if5 .left))
+    rw (
+      verdict s,
+      le-leb (headerSize + size (fieldsOf k) + n) limit (omega arith),
+      held
+          (c .before .before .before .before .before .before .before .is-known .ensures)
+          (c .before .before .before .before .before .before .if2 .left),
+      le-leb n (mostOf k) (omega arith),
+      held
+          (c .before .before .before .is-lettered .ensures) (c .before .before .if4 .left),
+      held (c .before .is-numbered .ensures)
+          (c .if5 .left),
+    )
 
 -- and the code knows its length
-counted : (c : tie.Else5) → c .before .before .before .before .before .before .before .before .before .fixed .result ≡ size (fieldsOf (c .before .before .before .before .before .before .before .before .before .before .before .before .args .p .kind))
+counted : (c : tie.Else5) → c .before .before .before .before .before .before .before .before .before .fixed .result ≡ size
+    (fieldsOf (c .before .before .before .before .before .before .before .before .before .before .before .before .args .p .kind))
 counted c = c .before .before .before .before .before .before .before .before .before .fixed .ensures
 
-long : (c : tie.Else5) → length (write (laidOut (c .before .before .before .before .before .before .before .before .before .before .before .before))) ≡ 3 + c .before .before .before .before .before .before .before .before .before .fixed .result + length (now (c .before .before .before .before .before .before .before .before .before .before .before .before .args .body))
+long : (c : tie.Else5) → length (write (laidOut
+    (c .before .before .before .before .before .before .before .before .before .before .before .before))) ≡ 3
+    + c .before .before .before .before .before .before .before .before .before .fixed .result + length
+    (now (c .before .before .before .before .before .before .before .before .before .before .before .before .args .body))
 long c =
     let s = c .before .before .before .before .before .before .before .before .before .before .before .before in
     let e = counted c in
     let l = length-written (laidOut s) (sized s) in
     omega arith
 
-small : (c : tie.Else5) → 3 + c .before .before .before .before .before .before .before .before .before .fixed .result + length (now (c .before .before .before .before .before .before .before .before .before .before .before .before .args .body)) ≤ limit
+small : (c : tie.Else5) → 3 + c .before .before .before .before .before .before .before .before .before .fixed .result + length
+    (now (c .before .before .before .before .before .before .before .before .before .before .before .before .args .body)) ≤ limit
 small c =
     let h = short (c .before .before .before .before .before .before .before .before .before .before .before .before .args .p .kind) in
     let e = counted c in
@@ -177,13 +229,16 @@ returns-7 c =
     let s = c .before .before .before .before .before .before .before .before .before .before .before .before .before .before .before .before .before .before .before .before .before .before .before .before .before in
     let e = c .before .before .before .before .before .before .before .before .before .before .before .before .before in
     let out = now (s .args .out) in
-    let fixed = c .before .before .before .before .before .before .before .before .before .before .before .before .before .before .before .before .before .before .before .before .before .before .fixed .result in
+    let fixed =
+    c .before .before .before .before .before .before .before .before .before .before .before .before .before .before .before .before .before .before .before .before .before .before .fixed .result in
     let n = 3 + fixed + length (now (s .args .body)) - 3 in
     let f = counted e in
     let l = long e in
     let room = c .before .before .before .before .before .before .before .before .before .before .before .before .if6 .left in
     has-room _ (write (laidOut s)) out (rw (passed e)) _ _ (sym l) (omega arith)
-    (packet-put (laidOut s) (sized s) out _ _ _ n (3 + fixed) (omega arith) (omega arith) (c .before .before .before .before .before .before .before .before .before .before .put2 .ensures) (c .before .before .before .before .before .before .put-fields .ensures) (c .before .before .copy .ensures))
+    (packet-put (laidOut s) (sized s) out _ _ _ n (3 + fixed) (omega arith) (omega arith)
+    (c .before .before .before .before .before .before .before .before .before .before .put2 .ensures)
+    (c .before .before .before .before .before .before .put-fields .ensures) (c .before .before .copy .ensures))
 
 pub write-spec : {M : Type 1} → statement M
 write-spec =

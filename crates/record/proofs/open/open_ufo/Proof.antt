@@ -13,13 +13,22 @@ is-blank-name-requires : tie.Need-is-blank-name-requires
 is-blank-name-requires c κs = search needs
 
 returns-2 : tie.Need-returns-2
-returns-2 c = rw (held (c .before .before .before .is-name-then-spaces .ensures) (c .before .before .if1 .left), ← c .before .is-blank-name .ensures, c .if2 .taken)
+returns-2 c = rw (
+  held (c .before .before .before .is-name-then-spaces .ensures) (c .before .before .if1 .left),
+  ← c .before .is-blank-name .ensures,
+  c .if2 .taken,
+)
 
 fresh-requires : tie.Need-fresh-requires
 fresh-requires c κs = search needs
 
 returns-3 : tie.Need-returns-3
-returns-3 c = rw (held (c .before .before .before .before .is-name-then-spaces .ensures) (c .before .before .before .if1 .left), ← c .before .before .is-blank-name .ensures, c .before .if2 .left, c .fresh .ensures)
+returns-3 c = rw (
+  held (c .before .before .before .before .is-name-then-spaces .ensures) (c .before .before .before .if1 .left),
+  ← c .before .before .is-blank-name .ensures,
+  c .before .if2 .left,
+  c .fresh .ensures,
+)
 
 pub open-ufo-spec : {M : Type 1} → statement M
 open-ufo-spec =

@@ -30,7 +30,13 @@ count-requires c κs = search needs
 returns-2 : tie.Need-returns-2
 unfolding standing
 returns-2 c =
-    rw (hung (c .before .before .before .before .before .before .before .before .before), le-leb _ _ (c .before .before .before .before .if2 .taken), ← c .before .before .count .ensures, ← c .before .before .before .at .ensures)
+    rw (
+      hung (c .before .before .before .before .before .before .before .before .before),
+      le-leb _ _
+          (c .before .before .before .before .if2 .taken),
+      ← c .before .before .count .ensures,
+      ← c .before .before .before .at .ensures,
+    )
 
 returns-3 : tie.Need-returns-3
 unfolding standing

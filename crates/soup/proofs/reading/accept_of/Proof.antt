@@ -18,7 +18,11 @@ returns : tie.Need-returns
 returns c =
     let b = c .before in
     let a = b .before .before .before in
-    rw (accept-together (now (a .args .session)) (now (a .args .digits)) (a .pre .1), failed (b .is-spaces-then-text .ensures) (c .if1 .taken))
+    rw (
+      accept-together (now (a .args .session)) (now (a .args .digits)) (a .pre .1),
+      failed (b .is-spaces-then-text .ensures)
+          (c .if1 .taken),
+    )
 
 is-blank-requires : tie.Need-is-blank-requires
 is-blank-requires c κs = search needs
@@ -37,7 +41,12 @@ told-as : (c : tie.After-read) (n : Number) → c .read .result ≡ n → accept
 told-as c n e =
     let i = c .before .before in
     let l = i .before .before .before .before .pre .1 in
-    rw (accept-together (session-of c) (digits-of c) l, held (i .before .is-spaces-then-text .ensures) (i .if1 .left), ← c .read .ensures, e)
+    rw (
+      accept-together (session-of c) (digits-of c) l,
+      held (i .before .is-spaces-then-text .ensures) (i .if1 .left),
+      ← c .read .ensures,
+      e,
+    )
 
 enum-told : tie.Need-enum-told
 enum-told c = search needs

@@ -41,7 +41,11 @@ returns c =
     let b = c .before in
     let s = b .before .before .before .before .before .before .before in
     let a = s .args in
-    rw (login-together (now (a .user)) (now (a .password)) (now (a .session)) (now (a .digits)) (s .pre .3), failed (same b) (c .if1 .taken))
+    rw (
+      login-together (now (a .user)) (now (a .password)) (now (a .session)) (now (a .digits)) (s .pre .3),
+      failed (same b)
+          (c .if1 .taken),
+    )
 
 is-blank-requires : tie.Need-is-blank-requires
 is-blank-requires c κs = search needs
@@ -66,7 +70,13 @@ told-as c n e =
     let b = i .before in
     let s = b .before .before .before .before .before .before .before in
     let a = s .args in
-    rw (login-together (now (a .user)) (now (a .password)) (now (a .session)) (now (a .digits)) (s .pre .3), held (same b) (i .if1 .left), ← c .read .ensures, e)
+    rw (
+      login-together (now (a .user)) (now (a .password)) (now (a .session)) (now (a .digits)) (s .pre .3),
+      held (same b)
+          (i .if1 .left),
+      ← c .read .ensures,
+      e,
+    )
 
 enum-told : tie.Need-enum-told
 enum-told c = search needs
@@ -117,7 +127,14 @@ returns-7 c =
     let i = u .before in
     let m = i .before .before in
     let r = m .before .before in
-    rw (told-as r (Is (m .n .given .0 .0)) (m .n .given .1), ← r .before .is-blank .ensures, i .if3 .left, u .get-user .ensures, c .before .get-name .ensures, c .get-name2 .ensures)
+    rw (
+      told-as r (Is (m .n .given .0 .0)) (m .n .given .1),
+      ← r .before .is-blank .ensures,
+      i .if3 .left,
+      u .get-user .ensures,
+      c .before .get-name .ensures,
+      c .get-name2 .ensures,
+    )
 
 pub login-of-spec : {M : Type 1} → statement M
 login-of-spec =

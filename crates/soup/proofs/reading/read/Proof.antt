@@ -62,7 +62,8 @@ sorted c kind k = by-type (packet c) kind (c .before .before .before .if1 .left)
 returns-3 : tie.Need-returns-3
 returns-3 c =
     let m = c .before .before in
-    rw (sorted m 43 (c .before .match .keys1)) (carried-as (packet m) debug (Debug 1) (λ s. refl) _ _ (m .before .payload-length .ensures) (c .read-payload .ensures))
+    rw (sorted m 43 (c .before .match .keys1)) (carried-as (packet m) debug (Debug 1) (λ s. refl) _ _ (m .before .payload-length .ensures)
+    (c .read-payload .ensures))
 
 returns-4 : tie.Need-returns-4
 returns-4 c = rw (sorted (c .before .before) 65 (c .before .match .keys2)) (c .read-accept .ensures)
@@ -73,7 +74,8 @@ returns-5 c = rw (sorted (c .before .before) 74 (c .before .match .keys3)) (c .r
 returns-6 : tie.Need-returns-6
 returns-6 c =
     let m = c .before .before in
-    rw (sorted m 83 (c .before .match .keys4)) (carried-as (packet m) sequenced (Sequenced 1) (λ s. refl) _ _ (m .before .payload-length .ensures) (c .read-payload2 .ensures))
+    rw (sorted m 83 (c .before .match .keys4))
+    (carried-as (packet m) sequenced (Sequenced 1) (λ s. refl) _ _ (m .before .payload-length .ensures) (c .read-payload2 .ensures))
 
 returns-7 : tie.Need-returns-7
 returns-7 c =
@@ -91,7 +93,8 @@ returns-9 c = rw (sorted (c .before .before) 76 (c .before .match .keys7)) (c .r
 returns-10 : tie.Need-returns-10
 returns-10 c =
     let m = c .before .before in
-    rw (sorted m 85 (c .before .match .keys8)) (carried-as (packet m) unsequenced (Unsequenced 1) (λ s. refl) _ _ (m .before .payload-length .ensures) (c .read-payload3 .ensures))
+    rw (sorted m 85 (c .before .match .keys8))
+    (carried-as (packet m) unsequenced (Unsequenced 1) (λ s. refl) _ _ (m .before .payload-length .ensures) (c .read-payload3 .ensures))
 
 returns-11 : tie.Need-returns-11
 returns-11 c =

@@ -49,7 +49,9 @@ close-requires c κs =
     let a = c .before .before .before .before .before .before .before .before .before .before in
     let b = now (a .args .buffer) in
     let p = now (a .args .piece) in
-    rw (c .before .before .before .copy .ensures) (found-line b p (a .args .kept) (a .args .from) (a .args .next .0) (a .pre .0) (a .pre .1) (a .pre .2) (a .pre .3) _ _ (c .before .before .before .before .before .before .before .smaller .ensures) (c .before .before .before .before .before .before .linefeed .ensures .0) (c .before .before .before .before .before .if1 .taken))
+    rw (c .before .before .before .copy .ensures) (found-line b p (a .args .kept) (a .args .from) (a .args .next .0) (a .pre .0) (a .pre .1)
+    (a .pre .2) (a .pre .3) _ _ (c .before .before .before .before .before .before .before .smaller .ensures)
+    (c .before .before .before .before .before .before .linefeed .ensures .0) (c .before .before .before .before .before .if1 .taken))
 
 same-length : tie.Need-same-length
 same-length c = search needs
@@ -59,7 +61,11 @@ returns c =
     let a = c .before .before .before .before .before .before .before .before .before .before .before in
     let b = now (a .args .buffer) in
     let p = now (a .args .piece) in
-    rw (c .close .ensures, c .before .before .before .before .copy .ensures) (answers-line b p (a .args .kept) (a .args .from) (a .args .next .0) (a .pre .0) (a .pre .1) (a .pre .2) (a .pre .3) _ _ (c .before .before .before .before .before .before .before .before .smaller .ensures) (c .before .before .before .before .before .before .before .linefeed .ensures .0) (c .before .before .before .before .before .before .if1 .taken))
+    rw (c .close .ensures, c .before .before .before .before .copy .ensures)
+    (answers-line b p (a .args .kept) (a .args .from) (a .args .next .0) (a .pre .0) (a .pre .1) (a .pre .2) (a .pre .3) _ _
+    (c .before .before .before .before .before .before .before .before .smaller .ensures)
+    (c .before .before .before .before .before .before .before .linefeed .ensures .0)
+    (c .before .before .before .before .before .before .if1 .taken))
 
 copy-requires-2 : tie.Need-copy-requires-2
 copy-requires-2 c κs = search needs
@@ -75,7 +81,11 @@ returns-2 c =
     let a = c .before .before .before .before .before .before .before .before .before .before in
     let b = now (a .args .buffer) in
     let p = now (a .args .piece) in
-    rw (c .before .before .before .copy2 .ensures) (answers-end b p (a .args .kept) (a .args .from) (a .args .next .0) (a .pre .0) (a .pre .1) (a .pre .2) (a .pre .3) _ _ (c .before .before .before .before .before .before .before .smaller .ensures) (c .before .before .before .before .before .before .linefeed .ensures .0) (c .before .before .before .before .before .if1 .left) (c .if2 .taken))
+    rw (c .before .before .before .copy2 .ensures)
+    (answers-end b p (a .args .kept) (a .args .from) (a .args .next .0) (a .pre .0) (a .pre .1) (a .pre .2) (a .pre .3) _ _
+    (c .before .before .before .before .before .before .before .smaller .ensures)
+    (c .before .before .before .before .before .before .linefeed .ensures .0) (c .before .before .before .before .before .if1 .left)
+    (c .if2 .taken))
 
 empty-requires : tie.Need-empty-requires
 empty-requires c κs = search needs
@@ -88,7 +98,11 @@ returns-3 c =
     let a = c .before .before .before .before .before .before .before .before .before .before .before in
     let b = now (a .args .buffer) in
     let p = now (a .args .piece) in
-    rw (c .empty .ensures, c .before .before .before .before .copy2 .ensures) (answers-overlong b p (a .args .kept) (a .args .from) (a .args .next .0) (a .pre .0) (a .pre .1) (a .pre .2) (a .pre .3) _ _ (c .before .before .before .before .before .before .before .before .smaller .ensures) (c .before .before .before .before .before .before .before .linefeed .ensures .0) (c .before .before .before .before .before .before .if1 .left) (c .before .if2 .left))
+    rw (c .empty .ensures, c .before .before .before .before .copy2 .ensures)
+    (answers-overlong b p (a .args .kept) (a .args .from) (a .args .next .0) (a .pre .0) (a .pre .1) (a .pre .2) (a .pre .3) _ _
+    (c .before .before .before .before .before .before .before .before .smaller .ensures)
+    (c .before .before .before .before .before .before .before .linefeed .ensures .0)
+    (c .before .before .before .before .before .before .if1 .left) (c .before .if2 .left))
 
 pub gather-spec : {M : Type 1} → statement M
 gather-spec =

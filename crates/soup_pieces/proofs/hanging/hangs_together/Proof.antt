@@ -25,7 +25,8 @@ is-unbroken-requires : tie.Need-is-unbroken-requires
 is-unbroken-requires c κs = search needs
 
 returns-4 : tie.Need-returns-4
-returns-4 c = by-rest _ _ _ (c .before .before .before .before .if1 .left) (c .before .before .before .if2 .left) (rw (c .before .before .if3 .left) (c .is-unbroken .ensures))
+returns-4 c = by-rest _ _ _ (c .before .before .before .before .if1 .left) (c .before .before .before .if2 .left)
+    (rw (c .before .before .if3 .left) (c .is-unbroken .ensures))
 
 pub hangs-together-spec : {M : Type 1} → statement M
 hangs-together-spec = tie.close (tie.spec returns returns-2 returns-3 slice-aggregate-is-unbroken is-unbroken-requires returns-4)

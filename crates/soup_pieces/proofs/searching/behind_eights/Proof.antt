@@ -40,7 +40,8 @@ loop-again c =
     let a = l .before .before in (
       omega arith,
       omega arith,
-      eight-more (now (a .args .s)) (a .args .from) (l .loop .at) (a .args .to) (l .loop .inv .0) (omega arith) (a .pre .1) (l .loop .inv .2) (held (c .before .are-eight-unbroken .ensures) (c .if1 .left)),
+      eight-more (now (a .args .s)) (a .args .from) (l .loop .at) (a .args .to) (l .loop .inv .0) (omega arith) (a .pre .1)
+          (l .loop .inv .2) (held (c .before .are-eight-unbroken .ensures) (c .if1 .left)),
     )
 
 returns-2 : tie.Need-returns-2 Inv-loop μ-loop

@@ -14,7 +14,8 @@ returns : tie.Need-returns
 returns c =
     let a = c .before .before .before in
     let e = c .before .behind-eights .ensures in (
-      found-behind (now (a .args .s)) (a .args .from) (c .before .behind-eights .result) (a .args .to) (c .find .result) (e .0) (e .1) (a .pre .1) (e .2) (c .find .ensures .0),
+      found-behind (now (a .args .s)) (a .args .from) (c .before .behind-eights .result) (a .args .to) (c .find .result) (e .0) (e .1)
+          (a .pre .1) (e .2) (c .find .ensures .0),
       c .find .ensures .1,
     )
 

@@ -13,7 +13,8 @@ use Rattle.specimens.proofs.hex.decode.Statement.{statement}
 use Rattle.specimens.proofs.hex.decode.Tie as tie
 
 abbrev Inv-loop : tie.InvT-loop
-Inv-loop text out₀ s₀ i₀ out s i = (i ≤ length text) × (s .count ≤ i) × (s .high ≤ 16) × (length out ≡ length out₀) × (take (s .count) out ++ spelt (s .high) (drop i text) ≡ spelt 16 text)
+Inv-loop text out₀ s₀ i₀ out s i = (i ≤ length text) × (s .count ≤ i) × (s .high ≤ 16) × (length out ≡ length out₀)
+    × (take (s .count) out ++ spelt (s .high) (drop i text) ≡ spelt 16 text)
 
 abbrev μ-loop : tie.MeasureT-loop
 μ-loop text out₀ s₀ i₀ out s i = length text - i
@@ -51,7 +52,8 @@ loop-again c =
       omega arith,
       p .ensures .waits,
       p .ensures .size ∙ l .inv .3,
-      further (l .s .count) (l .s .high) (d .result) (l .i) t (l .out) (p .last .0) (p .result) (omega arith) (d .ensures .0) (p .ensures) (l .inv .4),
+      further (l .s .count) (l .s .high) (d .result) (l .i) t (l .out) (p .last .0) (p .result) (omega arith) (d .ensures .0) (p .ensures)
+          (l .inv .4),
     )
 
 same-length : tie.Need-same-length Inv-loop μ-loop

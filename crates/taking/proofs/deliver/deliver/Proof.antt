@@ -12,19 +12,27 @@ use Rattle.taking.proofs.deliver.deliver.Statement.{statement}
 use Rattle.taking.proofs.deliver.deliver.Tie as tie
 
 -- the place that skipping reached
-place-so : (c : tie.After-known-told2) → let a = c .before .before .before .before .before .before .before .args in let q = c .before .start2 .given .0 .0 in (placeAfter (a .k) (now (a .datagram)) (a .place) ≡ taken q) × (q ≤ length (now (a .datagram)))
+place-so : (c : tie.After-known-told2) → let a = c .before .before .before .before .before .before .before .args in
+    let q = c .before .start2 .given .0 .0 in (placeAfter (a .k) (now (a .datagram)) (a .place) ≡ taken q)
+    × (q ≤ length (now (a .datagram)))
 place-so c =
     let a = c .before .before .before .before .before .before .before .args in
     let q = c .before .start2 .given .0 .0 in
-    let e = reached (placeAfter (a .k) (now (a .datagram)) (a .place)) q (sym (c .before .before .before .skip .ensures) ∙ c .before .start2 .given .1) in
+    let e = reached (placeAfter (a .k) (now (a .datagram)) (a .place)) q
+    (sym (c .before .before .before .skip .ensures) ∙ c .before .start2 .given .1) in
     (e, place-inside (a .k) (now (a .datagram)) (a .place) q e)
 
 -- what was let go fits behind the packet's own
-fits-so : (c : tie.After-known-told4) → let a = c .before .before .before .before .before .before .before .before .before .before .before .before .before .before .args in let own = length (now (a .datagram)) - c .before .before .before .before .before .before .before .before .start2 .given .0 .0 in (own + c .before .given2 .given .0 .1 .0 ≤ length (now (a .out))) × (length (c .before .before .before .before .before .release .last .1 .1 .1 .0) ≡ length (now (a .out)))
+fits-so : (c : tie.After-known-told4) → let a =
+    c .before .before .before .before .before .before .before .before .before .before .before .before .before .before .args in
+    let own = length (now (a .datagram)) - c .before .before .before .before .before .before .before .before .start2 .given .0 .0 in
+    (own + c .before .given2 .given .0 .1 .0 ≤ length (now (a .out)))
+    × (length (c .before .before .before .before .before .release .last .1 .1 .1 .0) ≡ length (now (a .out)))
 fits-so c =
     let a = c .before .before .before .before .before .before .before .before .before .before .before .before .before .before .args in
     let own = length (now (a .datagram)) - c .before .before .before .before .before .before .before .before .start2 .given .0 .0 in
-    let-fits (a .held) (now (a .area)) (a .number) own (now (a .out)) (c .before .given2 .given .0 .0) (c .before .given2 .given .0 .1 .0) _ (rw (c .before .given2 .given .1) at (c .before .before .before .before .before .release .ensures))
+    let-fits (a .held) (now (a .area)) (a .number) own (now (a .out)) (c .before .given2 .given .0 .0) (c .before .given2 .given .0 .1 .0) _
+    (rw (c .before .given2 .given .1) at (c .before .before .before .before .before .release .ensures))
 
 skip-requires : tie.Need-skip-requires
 skip-requires c κs = search needs
@@ -62,7 +70,8 @@ add-t24 c =
 returns : tie.Need-returns
 returns c =
     let a = c .before .before .before .before .before .before .before .args in
-    hands-none (a .k) (now (a .datagram)) (a .place) (a .held) (now (a .area)) (a .number) (now (a .out)) _ (sym (c .before .before .before .skip .ensures) ∙ c .before .start .given .1)
+    hands-none (a .k) (now (a .datagram)) (a .place) (a .held) (now (a .area)) (a .number) (now (a .out)) _
+    (sym (c .before .before .before .skip .ensures) ∙ c .before .start .given .1)
 
 same-length : tie.Need-same-length
 same-length c = search needs
@@ -71,7 +80,8 @@ returns-2 : tie.Need-returns-2
 returns-2 c =
     let k = c .before .before .before .before .before .before .before in
     let a = k .before .before .before .before .before .before .before .args in
-    hands-back (a .k) (now (a .datagram)) (a .place) (a .held) (now (a .area)) (a .number) (now (a .out)) _ (place-so k .0) _ _ (rw (c .before .given .given .1) at (c .before .before .before .before .before .release .ensures))
+    hands-back (a .k) (now (a .datagram)) (a .place) (a .held) (now (a .area)) (a .number) (now (a .out)) _ (place-so k .0) _ _
+    (rw (c .before .given .given .1) at (c .before .before .before .before .before .release .ensures))
 
 same-length-2 : tie.Need-same-length-2
 same-length-2 c = search needs
@@ -80,7 +90,8 @@ returns-3 : tie.Need-returns-3
 returns-3 c =
     let k = c .before .before .before .before .before .before .before .before .before .before .before in
     let a = k .before .before .before .before .before .before .before .args in
-    hands-over (a .k) (now (a .datagram)) (a .place) (a .held) (now (a .area)) (a .number) (now (a .out)) _ (place-so k .0) _ _ _ _ (rw (c .before .before .before .before .before .given2 .given .1) at (c .before .before .before .before .before .before .before .before .before .release .ensures)) (c .before .before .copy .ensures)
+    hands-over (a .k) (now (a .datagram)) (a .place) (a .held) (now (a .area)) (a .number) (now (a .out)) _ (place-so k .0) _ _ _ _
+    (rw (c .before .before .before .before .before .given2 .given .1) at (c .before .before .before .before .before .before .before .before .before .release .ensures)) (c .before .before .copy .ensures)
 
 pub deliver-spec : {M : Type 1} → statement M
 deliver-spec =

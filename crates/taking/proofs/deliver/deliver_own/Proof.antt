@@ -10,7 +10,8 @@ use Rattle.taking.proofs.deliver.deliver_own.Statement.{statement}
 use Rattle.taking.proofs.deliver.deliver_own.Tie as tie
 
 -- the place that was reached
-stands : (c : tie.After-known-told2) → let a = c .before .before .before .before .before .before .args in placeAfter (a .k) (now (a .datagram)) (a .place) ≡ taken (c .before .start2 .given .0 .0)
+stands : (c : tie.After-known-told2) → let a = c .before .before .before .before .before .before .args in
+    placeAfter (a .k) (now (a .datagram)) (a .place) ≡ taken (c .before .start2 .given .0 .0)
 stands c = reached _ _ (sym (c .before .before .before .skip .ensures) ∙ c .before .start2 .given .1)
 
 skip-requires : tie.Need-skip-requires
@@ -52,7 +53,8 @@ returns-3 : tie.Need-returns-3
 returns-3 c =
     let s = c .before .before .before .before .before in
     let a = s .before .before .before .before .before .before .args in
-    own-over (a .k) (now (a .datagram)) (a .place) (now (a .out)) _ (stands s) _ (c .before .before .before .before .if1 .left) (c .before .before .copy .ensures)
+    own-over (a .k) (now (a .datagram)) (a .place) (now (a .out)) _ (stands s) _ (c .before .before .before .before .if1 .left)
+    (c .before .before .copy .ensures)
 
 pub deliver-own-spec : {M : Type 1} → statement M
 deliver-own-spec =

@@ -5,10 +5,10 @@ use native.Mathlib.Omega.{arith}
 use denote.Ref.{now}
 use lib.ListN.{length}
 use Rattle.blocks.specs.Blocks.{fills}
-use Rattle.blocks.proofs.Steps.{missed}
+use Rattle.blocks.proofs.NextBlock.{missed}
 use Rattle.blocks.proofs.Found.{Found, finds}
 use Rattle.held.specs.Holding.{Holding, holdAll}
-use Rattle.hearing.specs.Hearing.{blocksFrom}
+use Rattle.reports.specs.Reports.{blocksFrom}
 use Rattle.taking.proofs.Trying.{tried, none-tried, one-long}
 use borrow.Author.Needs.{needs}
 use Rattle.taking.proofs.early.hold_each.Statement.{statement}
@@ -16,16 +16,22 @@ use Rattle.taking.proofs.early.hold_each.Tie as tie
 
 abbrev Inv-loop : tie.InvT-loop
 Inv-loop held next first count area₀ datagram place kept₀ at₀ number₀ left₀ area kept at number left =
-    (left ≤ count) × (number ≡ first + (count - left)) × (length area ≡ length area₀) × (fills datagram at left ≡ true) × (holdAll next (record { held = held; area = area₀ }) first (blocksFrom datagram place count) ≡ holdAll next (record { held = kept; area = area }) number (blocksFrom datagram at left))
+    (left ≤ count) × (number ≡ first + (count - left)) × (length area ≡ length area₀) × (fills datagram at left ≡ true)
+    × (holdAll next (record { held = held; area = area₀ }) first (blocksFrom datagram place count) ≡ holdAll next
+    (record { held = kept; area = area }) number (blocksFrom datagram at left))
 
 abbrev μ-loop : tie.MeasureT-loop
 μ-loop held next first count area₀ datagram place kept₀ at₀ number₀ left₀ area kept at number left = left
 
 -- the block that a turn finds
-finds-at : (c : tie.After-known-told Inv-loop μ-loop) → let g = c .before .start .given in Found (now (c .before .before .before .before .before .before .before .before .args .datagram)) (c .before .before .before .before .before .loop .at) (g .0 .0) (g .0 .1 .0) (g .0 .1 .1 .0)
+finds-at : (c : tie.After-known-told Inv-loop μ-loop) → let g = c .before .start .given in
+    Found (now (c .before .before .before .before .before .before .before .before .args .datagram))
+    (c .before .before .before .before .before .loop .at) (g .0 .0) (g .0 .1 .0) (g .0 .1 .1 .0)
 finds-at c =
     let g = c .before .start .given in
-    finds (now (c .before .before .before .before .before .before .before .before .args .datagram)) (c .before .before .before .before .before .loop .at) (g .0 .0) (g .0 .1 .0) (g .0 .1 .1 .0) (sym (c .before .before .before .next .ensures) ∙ g .1)
+    finds (now (c .before .before .before .before .before .before .before .before .args .datagram))
+    (c .before .before .before .before .before .loop .at) (g .0 .0) (g .0 .1 .0) (g .0 .1 .1 .0)
+    (sym (c .before .before .before .next .ensures) ∙ g .1)
 
 loop-holds : tie.Need-loop-holds Inv-loop μ-loop
 loop-holds c = (omega arith, omega arith, refl, c .before .before .pre .blocks, refl)
@@ -51,7 +57,13 @@ hold-requires c κs = search needs
 add-number : tie.Need-add-number Inv-loop μ-loop
 add-number c =
     let l = c .before .before .before .before .before .before .before .before .before .before .loop in
-    omega (arith, l .inv .0, l .inv .1, c .before .before .before .before .before .before .before .before .before .loop-test .taken, c .before .before .before .before .before .before .before .before .before .before .before .before .before .pre .bound)
+    omega (
+      arith,
+      l .inv .0,
+      l .inv .1,
+      c .before .before .before .before .before .before .before .before .before .loop-test .taken,
+      c .before .before .before .before .before .before .before .before .before .before .before .before .before .pre .bound,
+    )
 
 sub-left : tie.Need-sub-left Inv-loop μ-loop
 sub-left c = search needs
@@ -99,7 +111,8 @@ returns-2 c =
     let l = c .before .loop in
     let a = c .before .before .before .before .args in
     let h : Holding = record { held = l .kept; area = l .area } in
-    rw (l .inv .4 ∙ none-tried (now (a .datagram)) (a .next) h (l .number) (l .at) (l .left) (c .loop-test .left) (l .inv .3)) (record { bitmap = refl; bytes = refl })
+    rw (l .inv .4 ∙ none-tried (now (a .datagram)) (a .next) h (l .number) (l .at) (l .left) (c .loop-test .left) (l .inv .3))
+    (record { bitmap = refl; bytes = refl })
 
 pub hold-each-spec : {M : Type 1} → statement M
 hold-each-spec =

@@ -47,7 +47,13 @@ unfolding readA
 returns-4 c =
     let b = c .before .before in
     let t = b .before .before .before .is-text-then-spaces in
-    rw (← t .ensures, not-false (t .result) (b .before .before .if2 .left), ← b .before .is-blank .ensures, b .if3 .left, ← c .before .get4 .ensures) (search tests)
+    rw (
+      ← t .ensures,
+      not-false (t .result) (b .before .before .if2 .left),
+      ← b .before .is-blank .ensures,
+      b .if3 .left,
+      ← c .before .get4 .ensures,
+    ) (search tests)
 
 get-name-requires : tie.Need-get-name-requires
 get-name-requires c κs = search needs
@@ -57,7 +63,14 @@ unfolding readA
 returns-5 c =
     let b = c .before .before .before in
     let t = b .before .before .before .is-text-then-spaces in
-    rw (← t .ensures, not-false (t .result) (b .before .before .if2 .left), ← b .before .is-blank .ensures, b .if3 .left, ← c .before .before .get4 .ensures, c .get-name .ensures) (search tests)
+    rw (
+      ← t .ensures,
+      not-false (t .result) (b .before .before .if2 .left),
+      ← b .before .is-blank .ensures,
+      b .if3 .left,
+      ← c .before .before .get4 .ensures,
+      c .get-name .ensures,
+    ) (search tests)
 
 pub read-accept-spec : {M : Type 1} → statement M
 read-accept-spec =

@@ -71,7 +71,16 @@ returns-5 c =
     let n = b .before .get2 in
     let w : isWhole (blocksS d) ≡ true = framed b ∙ not-false (b .exactly .result) (c .before .before .before .if2 .left) in
     let h : g .result + n .result ≤ 4294967295 = omega arith in
-    rw (le-leb 7 (length d) (omega arith), w, ← g .ensures, ne-eqb (g .result) 0 (c .before .if3 .left), ← n .ensures, le-leb (g .result + n .result) 4294967295 h, count-cut (n .result) (drop 7 d) (rw (n .ensures) w))
+    rw (
+      le-leb 7 (length d) (omega arith),
+      w,
+      ← g .ensures,
+      ne-eqb (g .result) 0 (c .before .if3 .left),
+      ← n .ensures,
+      le-leb
+          (g .result + n .result) 4294967295 h,
+      count-cut (n .result) (drop 7 d) (rw (n .ensures) w),
+    )
 
 pub read-messages-spec : {M : Type 1} → statement M
 read-messages-spec =

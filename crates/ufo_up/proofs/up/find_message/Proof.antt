@@ -18,12 +18,15 @@ bytes : (c : tie.After-shared-slice-known Inv-loop μ-loop) → Bytes (now (c .b
 bytes c i = c .shared-slice-known .given i .fits
 
 -- a turn that went on
-onward : (c : tie.After-known-told Inv-loop μ-loop) → let i = c .before .before .before .before in let a = i .before .before .before .args in let n = c .before .next2 .given .0 .1 .1 .0 in Reaches (now (a .d)) (a .place) n × (i .before .loop .at < n)
+onward : (c : tie.After-known-told Inv-loop μ-loop) → let i = c .before .before .before .before in
+    let a = i .before .before .before .args in let n = c .before .next2 .given .0 .1 .1 .0 in Reaches (now (a .d)) (a .place) n
+    × (i .before .loop .at < n)
 onward c =
     let i = c .before .before .before .before in
     let s = i .before .before in
     let g = c .before .next2 .given in
-    reaches-more (now (s .before .args .d)) (bytes s) (s .before .args .place) (i .before .loop .at) (i .before .loop .inv) (i .loop-test .taken) (g .0 .0) (g .0 .1 .0) (g .0 .1 .1 .0) (sym (c .before .before .before .next .ensures) ∙ g .1)
+    reaches-more (now (s .before .args .d)) (bytes s) (s .before .args .place) (i .before .loop .at) (i .before .loop .inv)
+    (i .loop-test .taken) (g .0 .0) (g .0 .1 .0) (g .0 .1 .1 .0) (sym (c .before .before .before .next .ensures) ∙ g .1)
 
 loop-holds : tie.Need-loop-holds Inv-loop μ-loop
 loop-holds c = let s = c .before in reaches-none (now (s .args .d)) (s .args .place) (s .pre)
@@ -48,7 +51,8 @@ returns c =
     let l = c .before .before .before .before .before in
     let s = l .before in
     let g = c .before .n .given in
-    rw (reaches-out (now (s .before .args .d)) (bytes s) (s .before .args .place) (l .loop .at) (l .loop .inv) (g .0 .0) (sym (c .before .before .before .next .ensures) ∙ g .1))
+    rw (reaches-out (now (s .before .args .d)) (bytes s) (s .before .args .place) (l .loop .at) (l .loop .inv) (g .0 .0)
+    (sym (c .before .before .before .next .ensures) ∙ g .1))
 
 returns-2 : tie.Need-returns-2 Inv-loop μ-loop
 returns-2 c =
@@ -63,7 +67,8 @@ returns-3 : tie.Need-returns-3 Inv-loop μ-loop
 returns-3 c =
     let l = c .before .before .before in
     let s = l .before in
-    rw (reaches-here (now (s .before .args .d)) (bytes s) (s .before .args .place) (l .loop .at) (l .loop .inv) (omega arith)) (c .message-at .ensures)
+    rw (reaches-here (now (s .before .args .d)) (bytes s) (s .before .args .place) (l .loop .at) (l .loop .inv) (omega arith))
+    (c .message-at .ensures)
 
 pub find-message-spec : {M : Type 1} → statement M
 find-message-spec =

@@ -22,13 +22,16 @@ whole c =
     framed (now (c .before .args .d)) (λ i. c .shared-slice-known .given i .fits) (c .before .pre .0) (omega (arith, c .before .pre .1))
 
 -- a turn that went on
-onward : (c : tie.After-known-told Inv-loop μ-loop) → let l = c .before .before .before .before .before .before .loop in let n = c .before .next .given .0 .0 in Reached (now (c .before .before .before .before .before .before .before .before .args .d)) n (l .count + 1) × (l .at < n)
+onward : (c : tie.After-known-told Inv-loop μ-loop) → let l = c .before .before .before .before .before .before .loop in
+    let n = c .before .next .given .0 .0 in Reached (now (c .before .before .before .before .before .before .before .before .args .d)) n
+    (l .count + 1) × (l .at < n)
 onward c =
     let i = c .before .before .before .before in
     let l = i .before .before .loop in
     let s = i .before .before .before in
     let e = ap nextOf (sym (i .message-at .ensures)) ∙ sym (c .before .before .before .next-place .ensures) ∙ c .before .next .given .1 in
-    reached-more (now (s .before .args .d)) (l .at) (l .count) (whole s) (l .inv) (i .before .loop-test .taken) (c .before .next .given .0 .0) e
+    reached-more (now (s .before .args .d)) (l .at) (l .count) (whole s) (l .inv) (i .before .loop-test .taken)
+    (c .before .next .given .0 .0) e
 
 loop-holds : tie.Need-loop-holds Inv-loop μ-loop
 loop-holds c = reached-none (now (c .before .args .d))
@@ -60,7 +63,8 @@ returns c =
     let l = i .before .before .loop in
     let s = i .before .before .before in
     let e = ap nextOf (sym (i .message-at .ensures)) ∙ sym (c .before .before .before .next-place .ensures) ∙ c .before .n .given .1 in
-    reached-stop (now (s .before .args .d)) (l .at) (l .count) (whole s) (l .inv) (i .before .loop-test .taken) (c .before .n .given .0 .0) e
+    reached-stop (now (s .before .args .d)) (l .at) (l .count) (whole s) (l .inv) (i .before .loop-test .taken) (c .before .n .given .0 .0)
+    e
 
 returns-2 : tie.Need-returns-2 Inv-loop μ-loop
 returns-2 c =

@@ -48,7 +48,14 @@ returns-3 : tie.Need-returns-3
 unfolding readL
 returns-3 c =
     let b = c .before .before .before in
-    rw (← b .before .is-text-then-spaces .ensures, not-false (b .before .is-text-then-spaces .result) (b .if2 .left), ← c .before .is-text-then-spaces2 .ensures, not-true (c .before .is-text-then-spaces2 .result) (c .if3 .taken)) (search tests)
+    rw (
+      ← b .before .is-text-then-spaces .ensures,
+      not-false (b .before .is-text-then-spaces .result)
+          (b .if2 .left),
+      ← c .before .is-text-then-spaces2 .ensures,
+      not-true (c .before .is-text-then-spaces2 .result) (c .if3 .taken),
+    )
+    (search tests)
 
 sub-session : tie.Need-sub-session
 sub-session c = search needs
@@ -67,13 +74,22 @@ unfolding readL
 returns-4 c =
     let b = c .before .before .before in
     let a = b .before .before .before in
-    rw (← a .before .is-text-then-spaces .ensures, not-false (a .before .is-text-then-spaces .result) (a .if2 .left), ← b .before .is-text-then-spaces2 .ensures, not-false (b .before .is-text-then-spaces2 .result) (b .if3 .left), ← c .before .is-text-then-spaces3 .ensures, not-true (c .before .is-text-then-spaces3 .result) (c .if4 .taken)) (search tests)
+    rw (
+      ← a .before .is-text-then-spaces .ensures,
+      not-false (a .before .is-text-then-spaces .result)
+          (a .if2 .left),
+      ← b .before .is-text-then-spaces2 .ensures,
+      not-false (b .before .is-text-then-spaces2 .result) (b .if3 .left),
+      ← c .before .is-text-then-spaces3 .ensures,
+      not-true (c .before .is-text-then-spaces3 .result) (c .if4 .taken),
+    ) (search tests)
 
 abbrev message : tie.Else4 → List ℕ
 message c = now (c .before .before .before .before .before .before .before .before .before .before .before .args .m)
 
 -- the three texts are padded as they should be
-padded : (c : tie.Else4) → let m = message c in (textThenSpaces (userL m) ≡ true) × (textThenSpaces (passwordL m) ≡ true) × (textThenSpaces (sessionL m) ≡ true)
+padded : (c : tie.Else4) → let m = message c in (textThenSpaces (userL m) ≡ true) × (textThenSpaces (passwordL m) ≡ true)
+    × (textThenSpaces (sessionL m) ≡ true)
 padded c =
     let b = c .before .before .before in
     let a = b .before .before .before in (
@@ -105,7 +121,16 @@ unfolding readL
 returns-6 c =
     let b = c .before .before .before in
     let p = padded (b .before .before) in
-    rw (p .0, p .1, p .2, ← b .before .is-blank .ensures, b .if5 .left, c .before .before .get-user .ensures, c .before .get-name .ensures, c .get-name2 .ensures) (search tests)
+    rw (
+      p .0,
+      p .1,
+      p .2,
+      ← b .before .is-blank .ensures,
+      b .if5 .left,
+      c .before .before .get-user .ensures,
+      c .before .get-name .ensures,
+      c .get-name2 .ensures,
+    ) (search tests)
 
 pub read-l-spec : {M : Type 1} → statement M
 read-l-spec =

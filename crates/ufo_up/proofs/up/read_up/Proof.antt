@@ -14,7 +14,8 @@ use Rattle.ufo_up.proofs.up.read_up.Tie as tie
 whole : (c : tie.After-enum-told) → isWhole (upstream (now (c .before .before .before .before .before .before .args .d))) ≡ true
 whole c =
     let g = c .enum-told .given in
-    whole-count (upstream (now (c .before .before .before .before .before .before .args .d))) (g .0 .0) (sym (c .before .before .count-upstream .ensures) ∙ g .1)
+    whole-count (upstream (now (c .before .before .before .before .before .before .args .d))) (g .0 .0)
+    (sym (c .before .before .count-upstream .ensures) ∙ g .1)
 
 returns : tie.Need-returns
 unfolding readUp

@@ -25,7 +25,8 @@ same-length c = search needs
 returns : tie.Need-returns
 returns c =
     let d = c .before .before .before .before .before .before .before .before .before in
-    puts 2 2 (now (d .args .d)) _ _ (d .args .at) (d .args .n) (d .fits .n .fits) (c .before .before .before .before .before .before .put2 .ensures) (c .before .before .put22 .ensures)
+    puts 2 2 (now (d .args .d)) _ _ (d .args .at) (d .args .n) (d .fits .n .fits)
+    (c .before .before .before .before .before .before .put2 .ensures) (c .before .before .put22 .ensures)
 
 pub put4-spec : {M : Type 1} → statement M
 put4-spec =

@@ -25,7 +25,8 @@ same-length c = search needs
 returns : tie.Need-returns
 returns c =
     let d = c .before .before .before .before .before .before .before .before .before in
-    puts 4 4 (now (d .args .d)) _ _ (d .args .at) (d .args .n) (d .fits .n .fits) (c .before .before .before .before .before .before .put4 .ensures) (c .before .before .put42 .ensures)
+    puts 4 4 (now (d .args .d)) _ _ (d .args .at) (d .args .n) (d .fits .n .fits)
+    (c .before .before .before .before .before .before .put4 .ensures) (c .before .before .put42 .ensures)
 
 pub put8-spec : {M : Type 1} → statement M
 put8-spec =

@@ -1,4 +1,0 @@
-pub mod Hearing
-pub mod Order
-pub mod Own
-pub mod Skipped
