@@ -34,8 +34,8 @@ pub record Requests (r : Record) (first count : ℕ) (after : Record) : Type 0 w
   pub unheld : (k : ℕ) → first ≤ k → k < first + count → isHeld (r .held) (r .next .0) k ≡ false
   pub changes : after ≡ askedNow r
 
-wishes : (r : Record) (late : Bool) (first count : ℕ) (after : Record) → wish r late ≡ request first count after → (r .next .0 ≤ r .top .0)
-    × (requestOf r ≡ request first count after)
+wishes : (r : Record) (late : Bool) (first count : ℕ) (after : Record) → wish r late ≡ request first count after
+    → (r .next .0 ≤ r .top .0) × (requestOf r ≡ request first count after)
 unfolding wish
 wishes r late first count after e =
     by-test (leb (r .next .0) (r .top .0))

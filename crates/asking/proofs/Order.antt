@@ -4,7 +4,7 @@ use mathlib.Core.Path.{_≡_, refl}
 use mathlib.Core.Bool.{true}
 use mathlib.Core.List.{[], _∷_}
 use lib.Ieee.{Float}
-use Rattle.wire.specs.Checks.{taken, _else_, checked, inOrder, _into_}
+use Rattle.wire.specs.Checks.{taken, _else_, checked, inOrder}
 use Rattle.wire.proofs.Checks.{into-checked}
 use Rattle.clock.specs.Patience.{waitUnder, past, waitOverChecks}
 use Rattle.clock.specs.declared.sheet.Sheet.{Sheet}

@@ -25,13 +25,13 @@ abbrev pub askedNow : Record → Record
 askedNow r =
     record { session = r .session; next = r .next; top = r .top; ended = r .ended; asked = r .next; held = r .held }
 
--- a request names exactly the first missing range, its count capped at 65,535
+-- a request names exactly the first missing range, its count capped at 65,535: Asks.requests
 unfoldable pub requestOf : Record → Wish
 requestOf r =
     let range = missingOf r at 0 in
     request (range .first .0) (min (range .last .0 - range .first .0 + 1) 65535) (askedNow r)
 
--- late: the rule has a wait, and elapsed is at least that wait
+-- late: the rule has a wait, and elapsed is at least that wait; Asks.asks-nothing, asks-now and asks-later are the three ways
 unfoldable pub wish : Record → Bool → Wish
 wish r late =
     if not (lacks r) then nothing else

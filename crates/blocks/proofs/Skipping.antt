@@ -6,7 +6,7 @@ use mathlib.Core.Path.{_≡_, refl, ap, sym, _∙_}
 use native.Mathlib.Nat.{add-zero, not-suc-le-zero}
 use native.Mathlib.Omega.{arith}
 use borrow.Author.Tests.{leb-true, leb-false}
-use lib.ListN.{length, take, drop, getD, length-append, length-drop}
+use lib.ListN.{length, take, drop, getD, length-drop}
 use lib.Seq.{drop-at}
 use lib.Dec.{leb}
 use Rattle.wire.specs.Checks.{Verdict, refused, taken}
@@ -14,12 +14,11 @@ use Rattle.wire.specs.Fields.{Bytes}
 use Rattle.wire.proofs.Tests.{by-test}
 use Rattle.wire.proofs.Checks.{not-both}
 use Rattle.wire.proofs.Width.{bytes-drop}
-use Rattle.blocks.specs.Blocks.{frame, frames, stated, first, torn, whole, cut, messagesOf, endAt, blockAt, placeAfter, placeOf, Each}
+use Rattle.blocks.specs.Blocks.{frame, frames, stated, first, torn, whole, cut, messagesOf, endAt, placeAfter, placeOf, Each}
 use Rattle.blocks.specs.Blocks.{Short}
-use Rattle.blocks.specs.declared.Block.the-variants as block
 use Rattle.blocks.specs.declared.Place.the-variants as place
-use Rattle.blocks.proofs.NextBlock.{block-fits, place-step, place-torn, place-here, place-past, rest-at}
-use Rattle.blocks.proofs.Frames.{length-frames, length-frame, front-stated, length-first}
+use Rattle.blocks.proofs.NextBlock.{place-step, place-torn, place-here, place-past, rest-at}
+use Rattle.blocks.proofs.Frames.{length-frames, front-stated, length-first}
 use Rattle.blocks.proofs.Places.{each-at, placed, placed-next, frames-around}
 use Rattle.blocks.proofs.Cutting.{not-torn, stepped, frames-cut}
 
@@ -115,13 +114,6 @@ module _ (a m t : List ℕ) (h : Short m) where
 
   pub end-framed : endAt (a ++ (frame m ++ t)) (length a) ≡ length a + 2 + length m
   end-framed = rw (at-place, front-stated m t h)
-
-  pub block-framed : blockAt (a ++ (frame m ++ t)) (length a) ≡ block.At (length a + 2) (length m) (length a + 2 + length m)
-  block-framed =
-      block-fits (a ++ (frame m ++ t)) (length a) (length m) (length a + 2 + length m)
-      (sym (rw at-place (front-stated m t h)))
-      (sym end-framed)
-      (rw (length-append, length-append, length-frame) (omega arith))
 
 -- and so at the place of each of some blocks
 pub end-placed : (ms : List (List ℕ)) (k : ℕ) → Each Short ms → k < length ms → endAt (frames ms) (placed ms k) ≡ placed ms (k + 1)

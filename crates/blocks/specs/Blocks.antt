@@ -45,7 +45,8 @@ abbrev pub before : List ℕ → Cut → Cut
 before m torn = torn
 before m (whole ms) = whole (m ∷ ms)
 
--- exactly n blocks that end where s ends
+-- exactly n blocks that end where s ends. `Cutting`: what was framed is cut into its messages (`cut-frames`), and what was cut, framed
+-- again, is the same bytes (`frames-cut`)
 unfoldable pub cut : ℕ → List ℕ → Cut
 cut zero [] = whole []
 cut zero (x ∷ s) = torn
@@ -60,7 +61,8 @@ cutFull (suc n) s =
     if stated s is 0 then torn else
     before (first s) (cutFull n (rest s))
 
--- an upstream packet: one or more blocks, none of them empty. There are fewer of them than bytes
+-- an upstream packet: one or more blocks, none of them empty. There are fewer of them than bytes. `Cutting` again: `upstream-frames`,
+-- `frames-upstream`
 abbrev pub upstream : List ℕ → Cut
 upstream s = if length s is 0 then torn else cutFull (suc (length s)) s
 
@@ -88,11 +90,11 @@ blockAt s p =
     then block.At (p + 2) (stated (drop p s)) (endAt s p)
     else block.Refused 4
 
--- exactly n blocks stand from p to the very end
+-- exactly n blocks stand from p to the very end; that is, the place after n of them is the end (`Filling.fills-by-place`)
 abbrev pub fills : List ℕ → ℕ → ℕ → Bool
 fills s p n = p atMost length s && isWhole (cut n (drop p s))
 
--- the place after k blocks from p on, if they are there
+-- the place after k blocks from p on, if they are there; what follows it is the other blocks (`Skipping.skipped`)
 unfoldable pub placeAfter : ℕ → List ℕ → ℕ → Verdict ℕ
 placeAfter zero s p = if p atMost length s then taken p else refused 4
 placeAfter (suc k) s p = if endAt s p atMost length s then placeAfter k s (endAt s p) else refused 4

@@ -88,18 +88,18 @@ module _ (area : List ℕ) (slots : areaSize ≤ length area) where
   unfolding stands
   empty-told = takes _ no-messages refl over
 
-  hears-none : taking (heard 1 0 false) area (bytesOf 18 0x00_12_0000000000000001_0000000000000000) memxRoom ≡ leaves [] (heard 1 0 false)
-      area
+  hears-none : taking (heard 1 0 false) area (bytesOf 18 0x00_12_0000000000000001_0000000000000000) memxRoom
+      ≡ leaves [] (heard 1 0 false) area
   unfolding worked-out
   hears-none = rw (none-sound area slots)
 
-  hears-two : taking (heard 1 0 false) area (bytesOf 27 0x02_13_0000000000000001_0000000000000001_AB_0002_0002_4849_0000) memxRoom ≡ leaves
-      (hi ∷ [] ∷ []) (heard 3 2 false) area
+  hears-two : taking (heard 1 0 false) area (bytesOf 27 0x02_13_0000000000000001_0000000000000001_AB_0002_0002_4849_0000) memxRoom
+      ≡ leaves (hi ∷ [] ∷ []) (heard 3 2 false) area
   unfolding worked-out
   hears-two = rw (none-sound area slots)
 
-  shuts-down : taking (heard 3 2 false) area (bytesOf 20 0x01_14_0000000000000001_0000000000000002_ABCD) memxRoom ≡ leaves []
-      (heard 3 2 true) area
+  shuts-down : taking (heard 3 2 false) area (bytesOf 20 0x01_14_0000000000000001_0000000000000002_ABCD) memxRoom
+      ≡ leaves [] (heard 3 2 true) area
   unfolding worked-out
   shuts-down = rw (none-sound area slots)
 
@@ -111,8 +111,8 @@ module _ (area : List ℕ) (slots : areaSize ≤ length area) where
   abbrev five : List ℕ
   five = sets area 7360 (frame ok)
 
-  begins : taking (kept 1 0 false 0) area (bytesOf 13 0x53_00000001_0002_0002_4849_0000) enough ≡ leaves (hi ∷ [] ∷ []) (kept 3 2 false 0)
-      area
+  begins : taking (kept 1 0 false 0) area (bytesOf 13 0x53_00000001_0002_0002_4849_0000) enough
+      ≡ leaves (hi ∷ [] ∷ []) (kept 3 2 false 0) area
   unfolding worked-out
   begins = rw (none-sound area slots)
 
@@ -123,8 +123,8 @@ module _ (area : List ℕ) (slots : areaSize ≤ length area) where
   five-sound : sound 32 five ≡ true
   five-sound = taking-sound (kept 3 2 false 0) area _ enough _ holds-five
 
-  gives-five : taking (kept 3 5 false 32) five (bytesOf 20 0x53_00000002_0003_0000_0003_425559_0004_53454C4C) enough ≡ leaves
-      (buy ∷ sell ∷ ok ∷ []) (kept 6 5 false 0) five
+  gives-five : taking (kept 3 5 false 32) five (bytesOf 20 0x53_00000002_0003_0000_0003_425559_0004_53454C4C) enough
+      ≡ leaves (buy ∷ sell ∷ ok ∷ []) (kept 6 5 false 0) five
   unfolding worked-out
   gives-five = rw (five-sound, stored-message area ok 5 (omega arith) slots)
 
@@ -185,16 +185,16 @@ module _ (area : List ℕ) (slots : areaSize ≤ length area) where
       let fits : stated (slotAt two 2) ≤ longest = rw (stored-stated area hi 2 (omega arith) (omega arith) slots) (omega arith) in
       other-first two (frame ok) 4 2 (omega arith) (omega arith) fits ∙ stored-message area hi 2 (omega arith) slots
 
-  gives-two : taking (kept 1 4 false 20) both (bytesOf 12 0x53_00000001_0001_0003_425559) enough ≡ leaves (buy ∷ hi ∷ [])
-      (kept 3 4 false 16) both
+  gives-two : taking (kept 1 4 false 20) both (bytesOf 12 0x53_00000001_0001_0003_425559) enough
+      ≡ leaves (buy ∷ hi ∷ []) (kept 3 4 false 16) both
   unfolding worked-out
   gives-two = rw (both-sound, two-stays)
 
   four-sound : sound 16 both ≡ true
   four-sound = taking-sound (kept 1 4 false 20) both _ enough _ gives-two
 
-  gives-four : taking (kept 3 4 false 16) both (bytesOf 13 0x53_00000003_0001_0004_53454C4C) enough ≡ leaves (sell ∷ ok ∷ [])
-      (kept 5 4 false 0) both
+  gives-four : taking (kept 3 4 false 16) both (bytesOf 13 0x53_00000003_0001_0004_53454C4C) enough
+      ≡ leaves (sell ∷ ok ∷ []) (kept 5 4 false 0) both
   unfolding worked-out
   gives-four = rw (four-sound, stored-message two ok 4 (omega arith) long)
 

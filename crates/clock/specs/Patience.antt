@@ -25,7 +25,7 @@ measured s = if s .timed then add binary64 (s .mean) (mul binary64 (whole 4) (s 
 abbrev pub clamped : Float → Float → Float → Float
 clamped floor ceiling w = if lt w floor then floor else if lt ceiling w then ceiling else w
 
--- the rule's wait, if it has one
+-- the rule's wait, if it has one; a measured one lies between floor and ceiling (`Waits.wait-between`)
 abbrev pub waitUnder : Sheet → Patience → Option Float
 waitUnder s Never = none
 waitUnder s (Fixed w) = some w

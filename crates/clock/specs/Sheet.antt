@@ -9,7 +9,7 @@ use Rattle.clock.specs.declared.sheet.Sheet.{Sheet}
 use Rattle.clock.specs.declared.sheet.Timed.{Timed}
 use Rattle.clock.specs.declared.sheet.Timed.the-variants as timed
 
--- it hangs together; an untimed sheet's numbers don't matter
+-- it hangs together; an untimed sheet's numbers don't matter. A sheet that does so still does after any lawful sample (`Sound.stays-sound`)
 abbrev pub sound : Sheet → Bool
 sound s = if s .timed then lawful (s .mean) && lawful (s .spread) else true
 
@@ -21,7 +21,7 @@ weighed v a w b = add binary64 (mul binary64 v a) (mul binary64 w b)
 abbrev pub apart : Float → Float → Float
 apart mean r = let d = sub binary64 mean r in if lt d (whole 0) then neg d else d
 
--- RFC 6298: the sheet after a sample of r milliseconds
+-- RFC 6298: the sheet after a sample of r milliseconds; `Specimen.samples` works out the scope's three
 unfoldable pub smoothed : Sheet → Float → Sheet
 smoothed s r =
     if s .timed

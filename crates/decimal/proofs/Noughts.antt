@@ -32,7 +32,7 @@ no-more (suc k) t = rw (zero-mul, zero-add) (no-more k t)
 
 -- j spaces, k noughts and then digits
 module _ (j k : ℕ) (t : List ℕ) (l : j + k + length t ≡ 20) (d : digits t ≡ true) where
-  pub noughts-count-for-nothing : 0 < k + length t → numberOf (replicate j 32 ++ (replicate k 48 ++ t)) ≡ fitted (spelt t)
+  noughts-count-for-nothing : 0 < k + length t → numberOf (replicate j 32 ++ (replicate k 48 ++ t)) ≡ fitted (spelt t)
   noughts-count-for-nothing h =
       let all : length (replicate j 32 ++ (replicate k 48 ++ t)) ≡ 20 = simp (length-append, length-replicate) (omega arith) in
       let some : 0 < length (replicate k 48 ++ t) = simp (length-append, length-replicate) (omega arith) in

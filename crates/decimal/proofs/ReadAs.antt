@@ -1,5 +1,5 @@
--- What reading a number tells: spaces alone are no number, and without a leading zero a number is told of the characters that it is written
--- with and of no others.
+-- What characters are read as: spaces alone are no number, and without a leading zero a number is read of the characters that it is
+-- written with and of no others.
 -- Assumes nothing.
 use Prim.Native.Nat.{ℕ, _-_, _^_, _<_}
 use mathlib.Core.Path.{_≡_}
@@ -24,16 +24,16 @@ blank-is-none s n b e =
     (λ t. let q : Misshapen ≡ Is n = rw t at e in impossible cc)
 
 -- Reading what was written gives the number again.
-pub told-again : (n : ℕ) → n < 2 ^ 64 → numberOf (written n) ≡ Is n
+pub written-reads-back : (n : ℕ) → n < 2 ^ 64 → numberOf (written n) ≡ Is n
 unfolding numberOf
-told-again n h =
+written-reads-back n h =
     let r = read-written n h in
     rw (length-written n, r .formed, r .filled, r .value, le-leb n (2 ^ 64 - 1) (omega arith))
 
--- And without a leading zero a number was told only of the very characters that it is written with.
-pub told-of : (s : List ℕ) (n : ℕ) → numberOf s ≡ Is n → leadingZero s ≡ false → written n ≡ s
+-- And without a leading zero a number was read of the very characters that it is written with.
+pub reads-no-other : (s : List ℕ) (n : ℕ) → numberOf s ≡ Is n → leadingZero s ≡ false → written n ≡ s
 unfolding numberOf
-told-of s n e z =
+reads-no-other s n e z =
     by-test (length s is 20 && wellFormed s)
     (λ t.
     by-test (blank s)

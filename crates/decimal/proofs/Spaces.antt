@@ -28,8 +28,8 @@ short s i n h e = rw (cut s i (n - i) n (omega arith), e)
 -- the first m are spaces: then the w from place i on settle it, where nothing lies between
 pub overlap : (s : List ℕ) (i w n m : ℕ) → n ≡ i + w → i ≤ m → blank (take m s) ≡ true → blank (take w (drop i s)) ≡ blank (take n s)
 overlap s i w n m e l f =
-    let front : blank (take i s) ≡ true = and-left (blank (take i s)) (blank (take (m - i) (drop i s)))
-    (sym (cut s i (m - i) m (omega arith)) ∙ f) in
+    let both = sym (cut s i (m - i) m (omega arith)) ∙ f in
+    let front : blank (take i s) ≡ true = and-left (blank (take i s)) (blank (take (m - i) (drop i s))) both in
     rw (cut s i w n e, front)
 
 -- ---- two characters, and two parts alike

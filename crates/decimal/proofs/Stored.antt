@@ -48,8 +48,8 @@ module _ (n i rest : ℕ) (h : i ≤ 19) (r : rest ≡ n / 10 ^ (20 - i)) where
     reaches : 10 ^ (20 - i) ≤ n
     reaches = rw one-mul at (le-div-iff-mul-le (ten-pos (20 - i)) .0 (rw r at (pos-of-ne-zero p)))
 
-    pub next-stored : (j v : ℕ) → i ≡ suc j → v ≡ 48 + rest % 10 → set (replicate i 32 ++ places (20 - i) n) j v ≡ replicate j 32
-        ++ places (20 - j) n
+    pub next-stored : (j v : ℕ) → i ≡ suc j → v ≡ 48 + rest % 10
+        → set (replicate i 32 ++ places (20 - i) n) j v ≡ replicate j 32 ++ places (20 - j) n
     next-stored j v e w =
         let place : 20 - j ≡ suc (20 - i) = omega arith in
         let here : v ≡ character n (20 - i) = w ∙ rw r (sym (reached (20 - i) n reaches)) in

@@ -188,8 +188,8 @@ some [] e = let z : _≡_ {A = ℕ} 0 1 = cc in omega arith
 some (b ∷ s) e = by-test (eqb b 32) (λ t. rw t (some s (rw t at e))) (λ t. rw t (omega arith))
 
 -- a well-formed field with a space more in front
-one-more-space : (s : List ℕ) → wellFormed s ≡ true → blank s ≡ false → places (suc (length s)) (valueOf s) ≡ 32 ∷ places (length s)
-    (valueOf s)
+one-more-space : (s : List ℕ) → wellFormed s ≡ true → blank s ≡ false
+    → places (suc (length s)) (valueOf s) ≡ 32 ∷ places (length s) (valueOf s)
 unfolding places wellFormed valueOf
 one-more-space s f e =
     let l : spelt (trimmed s) < 10 ^ length (trimmed s) = spelt-lt (trimmed s) f in

@@ -32,7 +32,7 @@ unfoldable pub spelt : List ℕ → ℕ
 spelt [] = 0
 spelt (b ∷ s) = (b - 48) * 10 ^ length s + spelt s
 
--- the number that stands after the spaces
+-- the number that stands after the spaces; Noughts shows that noughts in front of it count for nothing
 unfoldable pub valueOf : List ℕ → ℕ
 valueOf s = spelt (trimmed s)
 
@@ -46,7 +46,7 @@ unfoldable pub places : ℕ → ℕ → List ℕ
 places zero n = []
 places (suc k) n = character n k ∷ places k n
 
--- the twenty characters that spell n
+-- the twenty characters that spell n; Written shows that reading and writing agree
 unfoldable pub written : ℕ → List ℕ
 written n = places 20 n
 
@@ -58,7 +58,7 @@ leadingZero s = 2 atMost length (trimmed s) && getD (trimmed s) 0 0 is 48
 abbrev pub fitted : ℕ → Number
 fitted n = if n atMost 2 ^ 64 - 1 then Is n else Over
 
--- what any characters come to; twenty spaces are no number, and never 0
+-- what any characters come to; ReadAs shows that twenty spaces are no number, and never 0
 unfoldable pub numberOf : List ℕ → Number
 numberOf s =
     if not (length s is 20 && wellFormed s) then Misshapen

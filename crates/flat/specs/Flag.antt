@@ -1,4 +1,4 @@
--- A yes or no as a byte: 1 or 0. Another byte is refused as 10.
+-- A yes or no as a byte: 1 or 0. Another byte is refused as 10. `Flags`: what was laid flat is taken up again as it was.
 -- Assumes nothing.
 use Prim.Native.Nat.{ℕ}
 use mathlib.Core.Bool.{Bool, true, false}

@@ -27,5 +27,5 @@ module _ (out : List ℕ) (used size number : ℕ) where
 
     pub and-then-unfit : Took (soFar (take used out)) → (r : Written) → r ≡ answerOf (unfit limit (used + size) number)
         → Settled (unfitBehind out used size number) out r out
-    and-then-unfit t r a = unfits (unfitBehind out used size number) out limit (used + size) number r
-        (rw (le-leb used (length out) h, t .is)) a
+    and-then-unfit t r a =
+        unfits (unfitBehind out used size number) out limit (used + size) number r (rw (le-leb used (length out) h, t .is)) a

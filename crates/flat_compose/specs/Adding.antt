@@ -31,7 +31,7 @@ aloneBehind out used size body reply =
 abbrev pub IsLogin : Packet → declared.Message → Type 0
 IsLogin p m = (bytes : List ℕ) → messageOf m bytes ≡ up.login (p .user) (p .password) (p .name)
 
--- L T U R O
+-- L T U R O. `Refusing` shows that the reader refuses of the whole packet what is refused here
 unfoldable pub addFlat : Packet → (body out : List ℕ) (used : ℕ) → Reply
 addFlat p body out used =
     if p .kind is 76 then aloneBehind out used 29 body (addReply (up.login (p .user) (p .password) (p .name)) out used) else

@@ -1,5 +1,4 @@
 // UFO, client to server, laid flat: a message written from its fields behind the packet so far.
-ghost use mathlib.Core.Path.{_≡_};
 ghost use Prim.Native.Nat.{_+_};
 ghost use lib.ListN.{length};
 ghost use Rattle.wire.specs.Reply.{Settled};
@@ -22,8 +21,8 @@ use wire::refusal;
 
 // A message and a body that don't go together: what is there is read first. The block has `size` bytes without the body.
 fn unfit_behind(out: &mut [u8], used: usize, size: u16, body: &[u8], number: u8) -> Written
-    ensures { λ r. ⌜ Settled (unfitBehind (now (out .entry)) used (size + length (now (body .entry))) number) (now (out .entry)) r
-        (now (out .exit)) ⌝ }
+    ensures { λ r. ⌜ Settled (unfitBehind (now (out .entry)) used (size + length (now (body .entry))) number)
+        (now (out .entry)) r (now (out .exit)) ⌝ }
 {
     if out.len() < used {
         return Written::Refused(refusal::FRAMING);

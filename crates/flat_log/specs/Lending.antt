@@ -14,7 +14,7 @@ use Rattle.flat.specs.Flag.{isFlag, says, byteOf}
 use Rattle.flat_log.specs.declared.FlatLog.{FlatLog}
 use Rattle.flat_log.specs.declared.FlatLogged.{FlatLogged}
 
--- the log that a flat one is, if its flag is a flag, and back
+-- the log that a flat one is, if its flag is a flag, and back; FlatAndBack shows that nothing is lost
 abbrev pub logOf : FlatLog → Log
 logOf l = record { count = l .count; used = l .used; ended = says (l .ended) }
 

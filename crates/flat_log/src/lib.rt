@@ -62,8 +62,8 @@ fn flat_logged(given: FlatLog, answer: Logged) -> FlatLogged
 }
 
 pub fn add(given: FlatLog, bytes: &mut [u8], message: &[u8]) -> FlatLogged
-    ensures { λ r. ⌜ FlatEntered (addVerdict given (now (bytes .entry)) (now (message .entry))) given (now (bytes .entry)) r
-        (now (bytes .exit)) ⌝ }
+    ensures { λ r. ⌜ FlatEntered (addVerdict given (now (bytes .entry)) (now (message .entry)))
+        given (now (bytes .entry)) r (now (bytes .exit)) ⌝ }
 {
     if flag::is_flag(given.ended) {
         flat_logged(given, log::add(log_of(given), bytes, message))
@@ -74,8 +74,8 @@ pub fn add(given: FlatLog, bytes: &mut [u8], message: &[u8]) -> FlatLogged
 
 // The messages are given as their blocks, and all of them are added or none.
 pub fn add_many(given: FlatLog, bytes: &mut [u8], blocks: &[u8]) -> FlatLogged
-    ensures { λ r. ⌜ FlatEntered (addManyVerdict given (now (bytes .entry)) (now (blocks .entry))) given (now (bytes .entry)) r
-        (now (bytes .exit)) ⌝ }
+    ensures { λ r. ⌜ FlatEntered (addManyVerdict given (now (bytes .entry)) (now (blocks .entry)))
+        given (now (bytes .entry)) r (now (bytes .exit)) ⌝ }
 {
     if flag::is_flag(given.ended) {
         flat_logged(given, log::add_many(log_of(given), bytes, blocks))
@@ -95,8 +95,8 @@ pub fn declare_end(given: FlatLog, bytes: &[u8]) -> FlatLogged
 }
 
 pub fn answer(given: FlatLog, bytes: &[u8], first: u32, count: u16, out: &mut [u8]) -> Wrote
-    ensures { λ r. ⌜ FlatSettled (answerFlat given (now (bytes .entry)) first count (length (now (out .entry)))) (now (out .entry)) r
-        (now (out .exit)) ⌝ }
+    ensures { λ r. ⌜ FlatSettled (answerFlat given (now (bytes .entry)) first count (length (now (out .entry))))
+        (now (out .entry)) r (now (out .exit)) ⌝ }
 {
     if flag::is_flag(given.ended) {
         let first = Sequence(first as u64);
@@ -107,8 +107,8 @@ pub fn answer(given: FlatLog, bytes: &[u8], first: u32, count: u16, out: &mut [u
 }
 
 pub fn heartbeat(given: FlatLog, bytes: &[u8], out: &mut [u8]) -> Wrote
-    ensures { λ r. ⌜ FlatSettled (heartbeatFlat given (now (bytes .entry)) (length (now (out .entry)))) (now (out .entry)) r
-        (now (out .exit)) ⌝ }
+    ensures { λ r. ⌜ FlatSettled (heartbeatFlat given (now (bytes .entry)) (length (now (out .entry))))
+        (now (out .entry)) r (now (out .exit)) ⌝ }
 {
     if flag::is_flag(given.ended) {
         wrote_of(lend::heartbeat(log_of(given), bytes, out))
@@ -118,8 +118,8 @@ pub fn heartbeat(given: FlatLog, bytes: &[u8], out: &mut [u8]) -> Wrote
 }
 
 pub fn end_packet(given: FlatLog, bytes: &[u8], out: &mut [u8]) -> Wrote
-    ensures { λ r. ⌜ FlatSettled (endPacketFlat given (now (bytes .entry)) (length (now (out .entry)))) (now (out .entry)) r
-        (now (out .exit)) ⌝ }
+    ensures { λ r. ⌜ FlatSettled (endPacketFlat given (now (bytes .entry)) (length (now (out .entry))))
+        (now (out .entry)) r (now (out .exit)) ⌝ }
 {
     if flag::is_flag(given.ended) {
         wrote_of(lend::end_packet(log_of(given), bytes, out))

@@ -1,3 +1,4 @@
 pub mod Refusing
+pub mod Extra
 pub mod Round
 mod Settled

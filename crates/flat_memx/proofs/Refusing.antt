@@ -1,5 +1,5 @@
--- MEMX-UDP: a type that is none is 3, and a body behind a header alone 4, or 5 where the header is too long; each is 2 where the whole is
--- over the limit.
+-- MEMX-UDP: a type that is none is 3, and a body behind a header alone 4, or 5 where the header is too long; where the whole is over the
+-- limit, each is 2.
 -- Assumes nothing.
 use Prim.Native.Nat.{ℕ, _+_, _^_, _≤_, _<_}
 use mathlib.Core.Path.{_≡_, refl, sym}
@@ -22,8 +22,8 @@ use Rattle.flat_memx.specs.Writing.{memxReply}
 
 -- one of two refusals stands
 either-stands : (small few : Bool) (d : List ℕ) (room : ℕ)
-    → settle {A = memx.Packet} (if small then if few then refused 4 else refused 5 else refused 2) d
-    room ≡ (if small then refused (if few then 4 else 5) else refused 2)
+    → settle {A = memx.Packet} (if small then if few then refused 4 else refused 5 else refused 2) d room
+    ≡ (if small then refused (if few then 4 else 5) else refused 2)
 either-stands true true d room = refl
 either-stands true false d room = refl
 either-stands false few d room = refl
@@ -47,8 +47,7 @@ module _ (p : Packet) (extra body : List ℕ) (room : ℕ) where
         other,
         news-verdict (p .kind) (p .session) (p .number) extra body s n other,
         le-leb (p .kind) 2 (omega arith),
-        ne-eqb
-            (length body) 0 (λ e. omega arith),
+        ne-eqb (length body) 0 (λ e. omega arith),
         leb-same (18 + length extra) 255 (length extra) 237 (λ e. omega arith) (λ e. omega arith),
       )
       (either-stands (leb size limit) (leb (length extra) 237) (headed (p .kind) (p .session) (p .number) extra body) room)

@@ -48,8 +48,8 @@ abbrev Again : List ℕ → Packet → Type 0
 Again d p = (p .kind ≡ getD d 0 0) × ((room : ℕ) → memxReply p (extraOf p d) (bodyOf p d) room ≡ within room d)
 
 -- so with a lawful packet that was laid flat
-flat-again : (q : memx.Packet) → let p = flatMemx (length (write q)) (memxOf (taken q)) .packet in (p .kind ≡ getD (write q) 0 0)
-    × ((room : ℕ) → memxReply p (extraOf p (write q)) (bodyOf p (write q)) room ≡ reply q room)
+flat-again : (q : memx.Packet) → let p = flatMemx (length (write q)) (memxOf (taken q)) .packet in
+    (p .kind ≡ getD (write q) 0 0) × ((room : ℕ) → memxReply p (extraOf p (write q)) (bodyOf p (write q)) room ≡ reply q room)
 unfolding memxReply write headed
 flat-again (memx.heartbeat session highest extra) = (refl, λ room. rw (extra-stands 0 session highest extra []))
 flat-again (memx.shutdown session highest extra) = (refl, λ room. rw (extra-stands 1 session highest extra []))
@@ -98,10 +98,10 @@ module _ (p : Packet) (f : Flat p) (extra body : List ℕ) (room : ℕ) (d : Lis
   As kind = memxRead d ≡ keptAs kind p extra body
 
   -- heartbeat and shutdown are told by their type
-  news-told : (kind : ℕ) → kind ≤ 1 → flatMemx (length d) (memxOf (taken (news kind (p .session) (p .number) extra))) ≡ keptAs kind p extra
-      body
-  news-told kind h = of-two (λ k. flatMemx (length d) (memxOf (taken (news k (p .session) (p .number) extra))) ≡ keptAs k p extra body) refl
-      refl kind h
+  news-told : (kind : ℕ) → kind ≤ 1
+      → flatMemx (length d) (memxOf (taken (news kind (p .session) (p .number) extra))) ≡ keptAs kind p extra body
+  news-told =
+      of-two (λ k. flatMemx (length d) (memxOf (taken (news k (p .session) (p .number) extra))) ≡ keptAs k p extra body) refl refl
 
   news-as : (p .kind is 2) ≡ false → sent (headed (p .kind) (p .session) (p .number) extra body) room ≡ taken d → As (p .kind)
   news-as k e =
@@ -117,8 +117,8 @@ module _ (p : Packet) (f : Flat p) (extra body : List ℕ) (room : ℕ) (d : Lis
       let packet = laid (p .session) (p .number) (p .count) extra body in
       let decide = laid-verdict (p .session) (p .number) (p .count) extra body (f .session) (f .number) (f .count) in
       let g = settled read (headedChecks 2 extra (2 + length body) ++ blocksChecks (p .number) (p .count) body) _ packet room d decide e in
-      let long : length packet ≡ 20 + length extra + length body = omega (arith, length-laid (p .session) (p .number) (p .count) extra body)
-      in
+      let l = length-laid (p .session) (p .number) (p .count) extra body in
+      let long : length packet ≡ 20 + length extra + length body = omega arith in
       rw (g .back, ← g .same, long, count-cut (p .count) body (g .passed .1 .1 .1 .0))
       (broadcast-blocks 2 (p .session) (p .number) (p .count) (length extra) (20 + length extra) body)
 

@@ -10,7 +10,7 @@ use Rattle.memx.specs.declared.reading.Memx.the-variants as memx
 use Rattle.flat_packet.specs.declared.Read.{Read}
 use Rattle.flat_packet.specs.Packets.{noPacket, broadcast}
 
--- of a packet of so many bytes: 0 1 2
+-- of a packet of so many bytes: 0 1 2; Round shows that writing these fields gives the same bytes
 abbrev pub flatMemx : ℕ → Memx → Read
 flatMemx size (memx.Refused n) = noPacket n
 flatMemx size (memx.Heartbeat session highest extra) = broadcast 0 (session .0) (highest .0) 0 extra 0 0

@@ -8,7 +8,8 @@ use Rattle.memx.specs.Packet.{headed, laid}
 use Rattle.memx_write.specs.Writing.{sent}
 use Rattle.flat_packet.specs.declared.Packet.{Packet}
 
--- messages, or a header and whatever stands behind it: the reader knows no other type, and no body with a header alone
+-- messages, or a header and whatever stands behind it: the reader knows no other type, and no body with a header alone (Refusing, Extra);
+-- Round shows that reading what was written gives these fields
 unfoldable pub memxReply : Packet → (extra body : List ℕ) → ℕ → Reply
 memxReply p extra body room =
     if p .kind is 2 then sent (laid (p .session) (p .number) (p .count) extra body) room else

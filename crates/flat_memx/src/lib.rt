@@ -68,8 +68,8 @@ fn bodiless(extra: &[u8]) -> u8
 }
 
 fn written(fields: Packet, extra: &[u8], body: &[u8], out: &mut [u8]) -> Written
-    ensures { λ r. ⌜ Settled (memxReply fields (now (extra .entry)) (now (body .entry)) (length (now (out .entry)))) (now (out .entry)) r
-        (now (out .exit)) ⌝ }
+    ensures { λ r. ⌜ Settled (memxReply fields (now (extra .entry)) (now (body .entry)) (length (now (out .entry))))
+        (now (out .entry)) r (now (out .exit)) ⌝ }
 {
     let kind = fields.kind;
     let session = SessionId(fields.session);
@@ -94,8 +94,8 @@ fn written(fields: Packet, extra: &[u8], body: &[u8], out: &mut [u8]) -> Written
 
 // The header's extra bytes are given: fields.extra is not looked at.
 pub fn write(fields: Packet, extra: &[u8], body: &[u8], out: &mut [u8]) -> Wrote
-    ensures { λ r. ⌜ FlatSettled (memxReply fields (now (extra .entry)) (now (body .entry)) (length (now (out .entry)))) (now (out .entry))
-        r (now (out .exit)) ⌝ }
+    ensures { λ r. ⌜ FlatSettled (memxReply fields (now (extra .entry)) (now (body .entry)) (length (now (out .entry))))
+        (now (out .entry)) r (now (out .exit)) ⌝ }
 {
     wrote::wrote_of(written(fields, extra, body, out))
 }

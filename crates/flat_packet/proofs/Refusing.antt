@@ -45,5 +45,5 @@ module _ (A : Type 0) (d : List ℕ) (room : ℕ) where
 
   pub beyond-datagram : (size : ℕ) (body : List ℕ) (reply : Reply) (v : Verdict A) → length d ≡ size + length body → 0 < length body
       → alone 1472 size body reply ≡ settle (opened (not (length d is 0)) 1472 d (if length d is size then v else refused 4)) d room
-  beyond-datagram size body reply v l h = beyond (not (length d is 0)) 1472 size (rw (ne-eqb (length d) 0 (λ z. omega arith))) body reply v
-      l h
+  beyond-datagram size body reply v l h =
+      beyond (not (length d is 0)) 1472 size (rw (ne-eqb (length d) 0 (λ z. omega arith))) body reply v l h

@@ -55,8 +55,8 @@ blocksBehind kind session number count extra start body =
 abbrev pub blocks : (kind session number count start : ℕ) (body : List ℕ) → Read
 blocks kind session number count start body = blocksBehind kind session number count 0 start body
 
-pub broadcast-blocks : (kind session number count extra start : ℕ) (body : List ℕ) → broadcast kind session number count extra start
-    (start + length body) ≡ blocksBehind kind session number count extra start body
+pub broadcast-blocks : (kind session number count extra start : ℕ) (body : List ℕ)
+    → broadcast kind session number count extra start (start + length body) ≡ blocksBehind kind session number count extra start body
 broadcast-blocks kind session number count extra start body = rw (add-sub-cancel-left start (length body))
 
 pub counted-blocks : (kind session number count start : ℕ) (body : List ℕ)
@@ -128,11 +128,11 @@ unfit-not-given limit size n d =
     (λ _. not-both (refused n) n d refl)
     (λ _. not-both (refused 2) 2 d refl)
 
-pub given-no-body : (limit size : ℕ) (body : List ℕ) (reply : Reply) (d : List ℕ) → alone limit size body reply ≡ taken d → (body ≡ [])
-    × (reply ≡ taken d)
+pub given-no-body : (limit size : ℕ) (body : List ℕ) (reply : Reply) (d : List ℕ) → alone limit size body reply ≡ taken d
+    → (body ≡ []) × (reply ≡ taken d)
 given-no-body limit size [] reply d e = (refl, e)
-given-no-body limit size (x ∷ body) reply d e = unfit-not-given limit (size + length (x ∷ body)) 4 d
-    (rw (ne-eqb (length (x ∷ body)) 0 (λ z. omega arith)) at e)
+given-no-body limit size (x ∷ body) reply d e =
+    unfit-not-given limit (size + length (x ∷ body)) 4 d (rw (ne-eqb (length (x ∷ body)) 0 (λ z. omega arith)) at e)
 
 -- one of the types
 pub given-by-kind : (P : ℕ → Type 0) (kind n : ℕ) (x y : Reply) (d : List ℕ) → (x ≡ taken d → P n) → (y ≡ taken d → P kind)

@@ -10,6 +10,6 @@ use Rattle.wire.specs.Reply.{Reply}
 abbrev pub unfit : (limit size number : ℕ) → Reply
 unfit limit size number = if size atMost limit then refused number else refused 2
 
--- a type that has no body, of `size` bytes without one: a body makes the packet too long
+-- a type that has no body, of `size` bytes without one: a body makes the packet too long; `Refusing` shows that a reader refuses it so
 abbrev pub alone : (limit size : ℕ) → List ℕ → Reply → Reply
 alone limit size body reply = if length body is 0 then reply else unfit limit (size + length body) 4

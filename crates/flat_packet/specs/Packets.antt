@@ -69,8 +69,8 @@ rejected reason = thePacket (record {
 
 -- bytes that begin at `start`
 abbrev pub payload : (kind start size next : ℕ) → Read
-payload kind start size next = thePacket
-    (record {
+payload kind start size next =
+    thePacket (record {
       kind = kind;
       reason = 0;
       count = 0;
@@ -136,8 +136,8 @@ numbered kind session number = counted kind session number 0 0 0
 
 -- a number and a count: T, and of a whole upstream packet its messages
 abbrev pub requested : (kind number count next : ℕ) → Read
-requested kind number count next = thePacket
-    (record {
+requested kind number count next =
+    thePacket (record {
       kind = kind;
       reason = 0;
       count = count;

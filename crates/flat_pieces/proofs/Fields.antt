@@ -21,8 +21,9 @@ use Rattle.flat_soup.proofs.Round.{kind-is-the-type-byte}
 
 -- a text is copied whole
 pub copied-whole : (out text : List ℕ) → length text ≡ length out → sets out 0 text ≡ text
-copied-whole out text l = sets-eq text out 0 (omega arith) ∙ rw (drop-of-length-le out {i = 0 + length text} (omega arith))
-    (append-nil text)
+copied-whole out text l =
+    let none = drop-of-length-le out {i = 0 + length text} (omega arith) in
+    sets-eq text out 0 (omega arith) ∙ rw none (append-nil text)
 
 -- the cases of the reader's answer that are their type alone: H Z R O
 abbrev pub alone : List ℕ

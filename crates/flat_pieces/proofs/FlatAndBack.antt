@@ -4,22 +4,15 @@
 use Prim.Native.Nat.{ℕ}
 use mathlib.Core.Path.{_≡_}
 use mathlib.Core.List.{List}
-use Rattle.soup_pieces.specs.Machine.{State}
-use Rattle.soup_pieces.specs.Taking.{taking}
-use Rattle.soup_pieces.specs.Taking as room
+use Rattle.soup_pieces.specs.Eating.{eating}
 use Rattle.soup_pieces.specs.declared.Pieces.{Pieces}
 use Rattle.flat.proofs.Flags.{flag-again, says-again}
-use Rattle.flat_pieces.specs.Taking.{piecesOf, flatPieces, flatState, takeVerdict}
+use Rattle.flat_pieces.specs.Taking.{piecesOf, flatPieces, takeVerdict}
 
 pub pieces-again : (p : Pieces) → piecesOf (flatPieces p) ≡ p
 pieces-again p = rw (says-again (p .dropping))
 
 -- the call is the room's
-pub call-again : (p : Pieces) (buffer piece : List ℕ) (place : ℕ) → takeVerdict (flatPieces p) buffer piece place ≡ taking p buffer piece
-    place
+pub call-again : (p : Pieces) (buffer piece : List ℕ) (place : ℕ)
+    → takeVerdict (flatPieces p) buffer piece place ≡ eating p buffer piece place
 call-again p buffer piece place = rw (flag-again (p .dropping), says-again (p .dropping))
-
--- and so is the next one, from the state that the last one left
-pub next-again : (s : State) (buffer piece : List ℕ) (place : ℕ) → takeVerdict (flatState s) buffer piece place ≡ taking (room.piecesOf s)
-    buffer piece place
-next-again s = call-again (room.piecesOf s)

@@ -8,7 +8,7 @@ use lib.Seq.{take-append-seam}
 use Rattle.wire.specs.Checks.{Verdict, refused, taken, _into_}
 use Rattle.wire.specs.Reply.{leftOf}
 use Rattle.soup_pieces.specs.Machine.{packet, refusal, First, usedUp, given}
-use Rattle.soup_pieces.specs.Taking.{takenOf, standing, Answered}
+use Rattle.soup_pieces.specs.Eating.{returned, atStart, Returned}
 use Rattle.soup_pieces.specs.declared.Taken.{Taken}
 use Rattle.soup_pieces.specs.declared.Taken.the-variants as takes
 use Rattle.flat_packet.specs.Packets.{nothing}
@@ -39,14 +39,14 @@ flatOf lent piece left (takes.Unfit why bytes place after) =
 
 -- it is the verdict's: what is handed out stands at the buffer's start
 pub same-flat : (lent : FlatPieces) (buffer piece : List ℕ) (v : Verdict First)
-    → flatOf lent piece (leftOf (v into λ f. taken (standing f)) buffer) (takenOf piece v) ≡ flatTaken lent piece v
+    → flatOf lent piece (leftOf (v into λ f. taken (atStart f)) buffer) (returned piece v) ≡ flatTaken lent piece v
 same-flat lent buffer piece (refused n) = refl
 same-flat lent buffer piece (taken (usedUp s)) = refl
 same-flat lent buffer piece (taken (given (packet d p number) s rest)) = rw (take-append-seam d (drop (length d) buffer))
 same-flat lent buffer piece (taken (given (refusal d why) s rest)) = refl
 
 pub flattens : {v : Verdict First} {lent : FlatPieces} {buffer piece left : List ℕ} {r : Taken} {flat : FlatPiece}
-    → Answered v buffer piece r left
+    → Returned v buffer piece r left
     → flat ≡ flatOf lent piece left r
     → FlatAnswered v lent buffer piece flat left
 flattens {v} {lent} {buffer} {piece} a e =

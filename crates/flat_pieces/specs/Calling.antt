@@ -1,10 +1,10 @@
 -- What a program in C is handed that feeds one piece after another and calls until each is used up, whatever the entry's contract allows.
 -- Assumes nothing.
-use Prim.Native.Nat.{ℕ}
+use Prim.Native.Nat.{ℕ, suc}
 use mathlib.Core.Path.{_≡_}
 use mathlib.Core.List.{List, [], _∷_, _++_}
 use lib.ListN.{take}
-use Rattle.soup_pieces.specs.Machine.{Handed, packet, refusal}
+use Rattle.soup_pieces.specs.Machine.{Yield, packet, refusal}
 use Rattle.soup_pieces.specs.Calling.{Lent}
 use Rattle.flat_packet.specs.declared.Packet.{Packet}
 use Rattle.flat_soup.specs.Reading.{soupRead}
@@ -25,16 +25,16 @@ lentOf l = record { pieces = piecesOf (l .pieces); buffer = l .buffer }
 abbrev pub FlatEntry : Type 1
 FlatEntry = FlatLent → (piece : List ℕ) (place : ℕ) → FlatPiece → (left : List ℕ) → Type 0
 
--- those that the contract of `take` allows
-abbrev pub FlatAllowed : FlatEntry
-FlatAllowed l piece place r left = FlatAnswered (takeVerdict (l .pieces) (l .buffer) piece place) (l .pieces) (l .buffer) piece r left
+-- those that the contract of `take` permits
+abbrev pub FlatPermitted : FlatEntry
+FlatPermitted l piece place r left = FlatAnswered (takeVerdict (l .pieces) (l .buffer) piece place) (l .pieces) (l .buffer) piece r left
 
 -- what the program is handed: a packet's bytes, fields and number, or a refused packet's bytes and why
 pub data FlatSeen : Type 0 where
   aPacket : (bytes : List ℕ) (fields : Packet) (number : ℕ) → FlatSeen
   aRefusal : (bytes : List ℕ) (why : ℕ) → FlatSeen
 
-abbrev pub flatSeen : List Handed → List FlatSeen
+abbrev pub flatSeen : List Yield → List FlatSeen
 flatSeen [] = []
 flatSeen (packet d p number ∷ hs) = aPacket d (soupRead d .packet) number ∷ flatSeen hs
 flatSeen (refusal d why ∷ hs) = aRefusal d why ∷ flatSeen hs
@@ -63,7 +63,17 @@ pub data FlatCalls (entry : FlatEntry) (piece : List ℕ) : FlatLent → ℕ →
       → FlatCalls entry piece (then r left) (r .place) more end
       → FlatCalls entry piece l place (aRefusal (take (r .bytes) left) (r .why) ∷ more) end
 
--- and so with one piece after another
+-- so many calls from a place on, none of which was refused or has used the piece up, and what is lent then and the place to go on from
+pub data FlatUnderway (entry : FlatEntry) (piece : List ℕ) : FlatLent → ℕ → (calls : ℕ) → FlatLent → ℕ → Type 0 where
+  begun : (l : FlatLent) (place : ℕ) → FlatUnderway entry piece l place 0 l place
+  called : (l : FlatLent) (place : ℕ) (r : FlatPiece) (left : List ℕ) (calls : ℕ) (last : FlatLent) (at : ℕ)
+      → entry l piece place r left
+      → r .refusal ≡ 0
+      → (r .what ≡ 0 → ⊥)
+      → FlatUnderway entry piece (then r left) (r .place) calls last at
+      → FlatUnderway entry piece l place (suc calls) last at
+
+-- calling until each piece is used up, one after another
 pub data FlatFeeds (entry : FlatEntry) : FlatLent → List (List ℕ) → List FlatSeen → FlatLent → Type 0 where
   done : (l : FlatLent) → FlatFeeds entry l [] [] l
   feeds : (l : FlatLent) (piece : List ℕ) (pieces : List (List ℕ)) (some more : List FlatSeen) (mid end : FlatLent)

@@ -6,8 +6,8 @@ use mathlib.Core.List.{List, [], _∷_}
 use lib.ListN.{length}
 use Rattle.wire.specs.Checks.{Verdict, refused, taken, _else_, checked, _into_}
 use Rattle.wire.specs.Reply.{leftOf}
-use Rattle.soup_pieces.specs.Machine.{State, packet, refusal, First, usedUp, given}
-use Rattle.soup_pieces.specs.Taking.{piecesOf as handedBack, taking, standing}
+use Rattle.soup_pieces.specs.Machine.{Machine, packet, refusal, First, usedUp, given}
+use Rattle.soup_pieces.specs.Eating.{piecesOf as handedBack, eating, atStart}
 use Rattle.soup_pieces.specs.declared.Pieces.{Pieces}
 use Rattle.flat.specs.Flag.{isFlag, says, byteOf}
 use Rattle.flat_packet.specs.Packets.{nothing}
@@ -19,17 +19,17 @@ use Rattle.flat_pieces.specs.declared.FlatPiece.{FlatPiece}
 abbrev pub piecesOf : FlatPieces → Pieces
 piecesOf p = record { kept = p .kept; dropping = says (p .dropping); next = record { 0 = p .next } }
 
--- and back
+-- and back; `FlatAndBack` shows that nothing is lost
 abbrev pub flatPieces : Pieces → FlatPieces
 flatPieces p = record { kept = p .kept; dropping = byteOf (p .dropping); next = p .next .0 }
 
 -- the same of a state as the room hands it back
-abbrev pub flatState : State → FlatPieces
-flatState s = flatPieces (handedBack s)
+abbrev pub flatMachine : Machine → FlatPieces
+flatMachine s = flatPieces (handedBack s)
 
 -- the entry: a flag that is none is 10, before all else
 abbrev pub takeVerdict : FlatPieces → (buffer piece : List ℕ) (place : ℕ) → Verdict First
-takeVerdict lent buffer piece place = checked ((isFlag (lent .dropping) else 10) ∷ []) (taking (piecesOf lent) buffer piece place)
+takeVerdict lent buffer piece place = checked ((isFlag (lent .dropping) else 10) ∷ []) (eating (piecesOf lent) buffer piece place)
 
 -- where the call is refused, the pieces that were lent; the place is where the bytes that are left begin; a packet's fields are those that
 -- the reader gives
@@ -37,7 +37,7 @@ abbrev pub flatTaken : FlatPieces → (piece : List ℕ) → Verdict First → F
 flatTaken lent piece (refused n) =
     record { refusal = n; place = 0; what = 0; why = 0; number = 0; bytes = 0; packet = nothing; pieces = lent }
 flatTaken lent piece (taken (usedUp s)) =
-    record { refusal = 0; place = length piece; what = 0; why = 0; number = 0; bytes = 0; packet = nothing; pieces = flatState s }
+    record { refusal = 0; place = length piece; what = 0; why = 0; number = 0; bytes = 0; packet = nothing; pieces = flatMachine s }
 flatTaken lent piece (taken (given (packet d p number) s left)) =
     record {
       refusal = 0;
@@ -47,7 +47,7 @@ flatTaken lent piece (taken (given (packet d p number) s left)) =
       number = number;
       bytes = length d;
       packet = soupRead d .packet;
-      pieces = flatState s;
+      pieces = flatMachine s;
     }
 flatTaken lent piece (taken (given (refusal d why) s left)) =
     record {
@@ -58,10 +58,10 @@ flatTaken lent piece (taken (given (refusal d why) s left)) =
       number = 0;
       bytes = length d;
       packet = nothing;
-      pieces = flatState s;
+      pieces = flatMachine s;
     }
 
--- the answer r, and every byte of the buffer
+-- the answer r, and every byte of the buffer; `Flattening` shows that it is the room's answer laid flat
 pub record FlatAnswered (v : Verdict First) (lent : FlatPieces) (buffer piece : List ℕ) (r : FlatPiece) (left : List ℕ) : Type 0 where
   pub answer : r ≡ flatTaken lent piece v
-  pub bytes : left ≡ leftOf (v into λ f. taken (standing f)) buffer
+  pub bytes : left ≡ leftOf (v into λ f. taken (atStart f)) buffer

@@ -13,7 +13,7 @@ ghost use Prim.Native.Nat.{_+_, _≤_};
 ghost use lib.ListN.{length, take, drop};
 ghost use Rattle.soup.specs.Read.{read};
 ghost use Rattle.soup.specs.Reading.{readingOf};
-ghost use Rattle.soup_pieces.specs.Taking.{Answered};
+ghost use Rattle.soup_pieces.specs.Eating.{Returned};
 ghost use Rattle.flat_packet.specs.Packets.{nothing};
 ghost use Rattle.flat_soup.specs.Reading.{soupRead};
 ghost use Rattle.flat_pieces.specs.Taking.{piecesOf, flatPieces, takeVerdict, FlatAnswered};
@@ -170,7 +170,7 @@ fn with_fields(flat: FlatPiece, said: Reading, bytes: &[u8]) -> FlatPiece
 
 // What the room answers; a flag that is none is 10.
 fn verdict(given: FlatPieces, buffer: &mut [u8], piece: &[u8], place: usize) -> Taken
-    ensures { λ r. ⌜ Answered (takeVerdict given (now (buffer .entry)) (now (piece .entry)) place) (now (buffer .entry))
+    ensures { λ r. ⌜ Returned (takeVerdict given (now (buffer .entry)) (now (piece .entry)) place) (now (buffer .entry))
         (now (piece .entry)) r (now (buffer .exit)) ⌝ }
 {
     if flag::is_flag(given.dropping) {

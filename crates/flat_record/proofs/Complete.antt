@@ -1,6 +1,5 @@
 -- The face says complete exactly where the record that it was given stands as complete.
 -- Assumes nothing.
-use Prim.Native.Nat.{ℕ}
 use mathlib.Core.Path.{_≡_, refl}
 use mathlib.Core.Logic.{_↔_}
 use Rattle.wire.specs.Checks.{Verdict, refused, taken, _into_}

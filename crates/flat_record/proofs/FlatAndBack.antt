@@ -35,8 +35,8 @@ pub record-again : (given : FlatRecord) (r : Record)
 record-again given r h e = rw (h, flag-again (r .ended), says-again (r .ended), e)
 
 -- what stands in the record that was given
-known : (given : FlatRecord) (r : Record) → knownRecord given ≡ taken r → ((given .style is 1 || given .style is 2) ≡ true)
-    × (recordOf given ≡ r)
+known : (given : FlatRecord) (r : Record) → knownRecord given ≡ taken r
+    → ((given .style is 1 || given .style is 2) ≡ true) × (recordOf given ≡ r)
 known given r e =
     let p = all-passed ((readable given else 10) ∷ []) (taken (recordOf given)) r e in
     (and-left (given .style is 1 || given .style is 2) (isFlag (given .ended)) (p .0 .0), taken-same (recordOf given) r (p .1))

@@ -46,7 +46,7 @@ readable r = (r .style is 1 || r .style is 2) && isFlag (r .ended)
 abbrev pub knownRecord : FlatRecord → Verdict Record
 knownRecord r = checked ((readable r else 10) ∷ []) (taken (recordOf r))
 
--- and back: style, name and session stay as they were given
+-- and back: style, name and session stay as they were given; FlatAndBack: taken up again it is the record that was laid flat
 abbrev pub flatRecord : FlatRecord → Record → FlatRecord
 flatRecord given r = record {
   style = given .style;
@@ -84,7 +84,8 @@ abbrev pub flatRange : MissingRange → FlatRange
 flatRange (gives.Refused n) = record { refusal = n; first = 0; last = 0 }
 flatRange (gives.Range r) = record { refusal = 0; first = r .first .0; last = r .last .0 }
 
--- the entries: a style or flag that is none is 10, before all else
+-- the entries: a style or flag that is none is 10, before all else; what they say of a record: Complete.complete-exactly-if and
+-- Ranges.one-by-one
 abbrev pub takeVerdict : FlatRecord → (area datagram : List ℕ) (room : ℕ) → Verdict Taking
 takeVerdict given area datagram room = knownRecord given into λ r. taking r area datagram room
 

@@ -180,8 +180,8 @@ fn flat_range(answer: MissingRange) -> FlatRange
 }
 
 pub fn take(given: FlatRecord, area: &mut [u8], datagram: &[u8], out: &mut [u8]) -> FlatTaken
-    ensures { λ r. ⌜ FlatAnswered (takeVerdict given (now (area .entry)) (now (datagram .entry)) (length (now (out .entry)))) given
-        (now (area .entry)) (now (out .entry)) r (now (area .exit)) (now (out .exit)) ⌝ }
+    ensures { λ r. ⌜ FlatAnswered (takeVerdict given (now (area .entry)) (now (datagram .entry)) (length (now (out .entry))))
+        given (now (area .entry)) (now (out .entry)) r (now (area .exit)) (now (out .exit)) ⌝ }
 {
     if is_readable(given) {
         flat_taken(given, taking::take(record_of(given), area, datagram, out))

@@ -1,3 +1,12 @@
 pub mod NeverNought
+pub mod Visiting
+pub mod Serving
+pub mod Taking
+pub mod Asking
+pub mod Opening
 pub mod EachStep
+pub mod Reading
+pub mod Holding
+pub mod Standing
+pub mod Exchanging
 pub mod Claims

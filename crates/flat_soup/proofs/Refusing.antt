@@ -1,56 +1,66 @@
 -- SoupTCP: what the writer refuses by itself, the reader refuses of that packet.
 -- Assumes nothing.
 use Prim.Native.Nat.{ℕ, _+_, _<_}
-use mathlib.Core.Path.{_≡_, _∙_}
+use mathlib.Core.Path.{_≡_, sym, ap, _∙_}
 use mathlib.Core.Logic.{_⊎_, inl, inr}
 use mathlib.Core.List.{List, [], _∷_, _++_}
 use native.Mathlib.Omega.{arith}
-use borrow.Author.Tests.{ne-eqb, le-leb}
+use borrow.Author.Tests.{le-leb}
 use lib.ListN.{length, length-append}
-use Rattle.wire.specs.Checks.{if_then_else_, _is_, _atMost_, Verdict, refused}
+use Rattle.wire.specs.Checks.{if_then_else_, _is_, _atMost_, Verdict, refused, checked}
 use Rattle.wire.specs.Reply.{Reply, settle}
 use Rattle.decimal.specs.Decimal.{written}
-use Rattle.soup.specs.Packet.{line}
-use Rattle.soup.specs.Read.{read}
+use Rattle.soup.specs.Packet as soup
+use Rattle.soup.specs.Packet.{lineLimit, line}
+use Rattle.soup.specs.Read.{opening, read}
 use Rattle.soup_write.specs.Writing.{sent}
 use Rattle.soup.proofs.Lines.{length-line}
+use Rattle.soup.proofs.Types.{Unknown, unknown-is-3}
 use Rattle.decimal.proofs.Written.{length-written}
 use Rattle.flat_packet.specs.declared.Packet.{Packet}
 use Rattle.flat_soup.specs.Writing.{soupBare, soupReply}
 use Rattle.flat_packet.specs.Fitting.{unfit, alone}
-use Rattle.flat_packet.proofs.Refusing.{None, opened, unknown, beyond}
+use Rattle.flat_packet.proofs.Refusing.{opened, unknown, beyond}
 
 -- a line of an unknown type; and one that goes on with a body
 module _ (A : Type 0) (d : List ℕ) (room : ℕ) where
-  pub unknown-line : (size : ℕ) → length d ≡ size → 0 < size
-      → unfit 4098 size 3 ≡ settle {A = A} (opened (1 atMost length d) 4098 d (refused 3)) d room
-  unknown-line size l h = unknown A d room (1 atMost length d) 4098 size (le-leb 1 (length d) (omega arith)) l
+  unknown-line : (size : ℕ) → length d ≡ size → 0 < size
+      → unfit lineLimit size 3 ≡ settle {A = A} (opened (1 atMost length d) lineLimit d (refused 3)) d room
+  unknown-line size l h = unknown A d room (1 atMost length d) lineLimit size (le-leb 1 (length d) (omega arith)) l
 
-  pub beyond-line : (size : ℕ) (body : List ℕ) (reply : Reply) (v : Verdict A) → length d ≡ size + length body → 0 < length body
-      → alone 4098 size body reply ≡ settle (opened (1 atMost length d) 4098 d (if length d is size then v else refused 4)) d room
-  beyond-line size body reply v l h = beyond A d room (1 atMost length d) 4098 size (le-leb 1 (length d) (omega arith)) body reply v l h
+  beyond-line : (size : ℕ) (body : List ℕ) (reply : Reply) (v : Verdict A) → length d ≡ size + length body → 0 < length body
+      → alone lineLimit size body reply ≡ settle (opened (1 atMost length d) lineLimit d (if length d is size then v else refused 4)) d room
+  beyond-line size body reply v l h =
+      beyond A d room (1 atMost length d) lineLimit size (le-leb 1 (length d) (omega arith)) body reply v l h
 
 module _ (p : Packet) (body : List ℕ) (room : ℕ) where
   size : (kind n : ℕ) (fields : List ℕ) → length fields ≡ n → length (line kind (fields ++ body)) ≡ 2 + n + length body
   size kind n fields l = length-line kind (fields ++ body) ∙ simp (length-append, l) (omega arith)
 
-  pub unknown-type : None (43 ∷ 83 ∷ 85 ∷ 65 ∷ 74 ∷ 76 ∷ 72 ∷ 90 ∷ 82 ∷ 79 ∷ []) (p .kind)
-      → soupReply p body room ≡ sent (line (p .kind) body) room
-  unfolding soupReply soupBare read
-  unknown-type u =
-      rw (
-        ne-eqb (p .kind) 43 (u .0),
-        ne-eqb (p .kind) 83 (u .1 .0),
-        ne-eqb (p .kind) 85 (u .1 .1 .0),
-        ne-eqb (p .kind) 65 (u .1 .1 .1 .0),
-        ne-eqb (p .kind) 74 (u .1 .1 .1 .1 .0),
-        ne-eqb (p .kind) 76 (u .1 .1 .1 .1 .1 .0),
-        ne-eqb (p .kind) 72 (u .1 .1 .1 .1 .1 .1 .0),
-        ne-eqb (p .kind) 90 (u .1 .1 .1 .1 .1 .1 .1 .0),
-        ne-eqb (p .kind) 82 (u .1 .1 .1 .1 .1 .1 .1 .1 .0),
-        ne-eqb (p .kind) 79 (u .1 .1 .1 .1 .1 .1 .1 .1 .1 .0),
-      )
-      (unknown-line _ (line (p .kind) body) room (2 + length body) (omega (arith, length-line (p .kind) body)) (omega arith))
+  -- a type that is none of the ten
+  module _ (u : Unknown (p .kind)) where
+    pub unknown-reply : soupReply p body room ≡ unfit lineLimit (2 + length body) 3
+    unfolding soupReply soupBare
+    unknown-reply = rw (
+      u .debug,
+      u .sequenced,
+      u .unsequenced,
+      u .accept,
+      u .reject,
+      u .login,
+      u .serverHeartbeat,
+      u .endOfSession,
+      u .clientHeartbeat,
+      u .logout,
+    )
+
+    pub unknown-type : soupReply p body room ≡ sent (line (p .kind) body) room
+    unfolding read
+    unknown-type =
+        let d = line (p .kind) body in
+        unknown-reply
+        ∙ unknown-line soup.Packet d room (2 + length body) (omega (arith, length-line (p .kind) body)) (omega arith)
+        ∙ ap (λ (v : Verdict soup.Packet). settle (checked (opening d) v) d room) (sym (unknown-is-3 (p .kind) d u))
 
   module _ (h : 0 < length body) where
     pub accept-with-body : p .kind ≡ 65 → length (p .name) ≡ 10

@@ -2,22 +2,23 @@
 -- Assumes nothing.
 use Prim.Native.Nat.{ℕ, _+_}
 use mathlib.Core.Path.{_≡_, refl, sym, ap, _∙_}
-use mathlib.Core.List.{List, [], _∷_, _++_, append-assoc, append-nil}
+use mathlib.Core.List.{List, [], _∷_, _++_}
 use mathlib.Core.Bool.{false}
-use lib.ListN.{length, getD, take, length-append}
+use lib.ListN.{length, getD, take}
 use lib.Seq.{take-at}
 use Rattle.wire.specs.Fields.{Bytes}
-use Rattle.wire.specs.Checks.{if_then_else_, _is_, refused, taken, Check, checked}
+use Rattle.wire.specs.Checks.{if_then_else_, _is_, taken, checked}
 use Rattle.wire.specs.Reply.{within}
 use Rattle.decimal.specs.Decimal.{written}
 use Rattle.decimal.proofs.Written.{read-written, length-written}
 use Rattle.soup.specs.Packet as soup
-use Rattle.soup.specs.Packet.{line, carries, write, Fit}
-use Rattle.soup.specs.Read.{field, payload, opening, lineChecks, sizedChecks, rejectChecks, acceptChecks, loginChecks, rejectOf, acceptOf}
-use Rattle.soup.specs.Read.{loginOf, read}
+use Rattle.soup.specs.Packet.{lineLimit, line, carries, write, Fit}
+use Rattle.soup.specs.Read.{read}
 use Rattle.soup.specs.Reading.{packetOf, readingOf}
 use Rattle.soup.specs.Spelling.{spelling, padded}
-use Rattle.soup.proofs.Lines.{payload-line, field-in}
+use Rattle.soup.proofs.Lines.{payload-line, accept-found, login-found}
+use Rattle.soup.proofs.Types.{every-type}
+use Rattle.soup.proofs.Order.{allChecks, packetIn, read-by-checks, never-under-0}
 use Rattle.soup.proofs.SpeltAnew.{unspelt, same-type}
 use Rattle.soup.proofs.Exact.{written-is-read, read-is-written}
 use Rattle.soup.proofs.Spelling.{read-alike, own-spelling}
@@ -26,32 +27,13 @@ use Rattle.flat_packet.specs.declared.Packet.{Packet}
 use Rattle.flat_packet.specs.declared.Read.{Read}
 use Rattle.flat_packet.specs.Packets.{bare, named, rejected, payload as carried, loggedIn}
 use Rattle.flat_packet.specs.Fitting.{alone}
-use Rattle.wire.proofs.Numbered.{never-checked, never-taken, never-under, never-either}
 use Rattle.flat_packet.proofs.Round.{bodyOf, Flat, padded-right-text, padded-left-text, same-name, same-user, told-as-0, Round, rounds}
-use Rattle.flat_packet.proofs.Round.{unfit-not-given, given-no-body, given-by-kind, settled}
+use Rattle.flat_packet.proofs.Round.{unfit-not-given, given-no-body, settled}
 use Rattle.flat_soup.specs.Reading.{flatSoup, soupRead}
 use Rattle.flat_soup.specs.Writing.{soupBare, soupReply}
+use Rattle.flat_soup.proofs.Refusing.{unknown-reply}
 
 -- ---- what was read
-
--- no refusal is told as 0
-never-0 : (d : List ℕ) → read d ≡ refused 0 → ⊥
-unfolding read rejectOf acceptOf loginOf
-never-0 d =
-    let k = getD d 0 0 in
-    never-checked (opening d) _ refl
-    (never-either (k is 43) _ _ (never-taken (lineChecks d) _ refl)
-    (never-either (k is 65) _ _ (never-checked (sizedChecks 32 d) _ refl (never-taken (acceptChecks (field 1 10 d) (field 11 20 d)) _ refl))
-    (never-either (k is 74) _ _ (never-checked (sizedChecks 3 d) _ refl (never-taken (rejectChecks (getD d 1 0)) _ refl))
-    (never-either (k is 83) _ _ (never-taken (lineChecks d) _ refl)
-    (never-either (k is 72) _ _ (never-taken (sizedChecks 2 d) _ refl)
-    (never-either (k is 90) _ _ (never-taken (sizedChecks 2 d) _ refl)
-    (never-either (k is 76) _ _ (never-checked (sizedChecks 48 d) _ refl
-    (never-taken (loginChecks (field 1 6 d) (field 7 10 d) (field 17 10 d) (field 27 20 d)) _ refl))
-    (never-either (k is 85) _ _ (never-taken (lineChecks d) _ refl)
-    (never-either (k is 82) _ _ (never-taken (sizedChecks 2 d) _ refl)
-    (never-either (k is 79) _ _ (never-taken (sizedChecks 2 d) _ refl)
-    (never-under 3 refl)))))))))))
 
 -- a payload found in its line
 inside : (s : List ℕ) → take (length s) (s ++ 10 ∷ []) ≡ s
@@ -101,11 +83,11 @@ module _ (d : List ℕ) (b : Bytes d) where
   round =
       rounds Fit write (λ size v. flatSoup (readingOf v)) soupReply
       (λ q f. let a = flat-again q f in (a .0, λ room. a .1 room ∙ rw (written-is-read q f)))
-      (spelling d) (read d) (λ q e. let l = read-is-written d q b e in (l .0, l .1)) (never-0 d) (λ n. refl)
+      (spelling d) (read d) (λ q e. let l = read-is-written d q b e in (l .0, l .1)) (never-under-0 d) (λ n. refl)
 
   -- what holds of every packet that was read
   took : (P : Read → Type 0) → ((q : soup.Packet) → read d ≡ taken q → P (flatSoup (packetOf q))) → soupRead d .refusal ≡ 0 → P (soupRead d)
-  took P = told-as-0 (λ v. flatSoup (readingOf v)) P (λ n. refl) (read d) (never-0 d)
+  took P = told-as-0 (λ v. flatSoup (readingOf v)) P (λ n. refl) (read d) (never-under-0 d)
 
   -- What was read, written with its body, is its spelling.
   pub read-then-written : (room : ℕ) → soupRead d .refusal ≡ 0 → let p = soupRead d .packet in
@@ -148,100 +130,55 @@ keptAs kind p body =
 abbrev pub kept : Packet → List ℕ → Read
 kept p body = keptAs (p .kind) p body
 
--- what a packet of some fields is read as, if it passes the checks, are these fields
-record Checked (q : soup.Packet) : Type 0 where
-  checks : List Check
-  decide : read (write q) ≡ checked checks (taken q)
-
--- under any of the three types
-checked-payload : (kind : ℕ) (packet : List ℕ → soup.Packet) (s : List ℕ) → let d = line kind s in write (packet s) ≡ d
-    → read d ≡ checked (opening d) (checked (lineChecks d) (taken (packet (payload d)))) → Checked (packet s)
-checked-payload kind packet s w r =
-    let d = line kind s in
-    record { checks = opening d ++ lineChecks d; decide = rw w (r ∙ rw (payload-line kind s)) }
-
-checked-reject : (reason : ℕ) → Checked (soup.reject reason)
-unfolding read rejectOf
-checked-reject reason =
-    let d = write (soup.reject reason) in
-    record { checks = opening d ++ (sizedChecks 3 d ++ rejectChecks reason); decide = refl }
-
-module _ (p : Packet) (f : Flat p) where
-  checked-accept : Checked (soup.accept (p .name) (p .number))
-  unfolding read acceptOf
-  checked-accept =
-      let session = p .name in
-      let w = written (p .number) in
-      let s = session ++ w in
-      let d = line 65 s in
-      record {
-        checks = opening d ++ (sizedChecks 32 d ++ acceptChecks session w);
-        decide =
-            rw (
-              field-in 65 0 10 s [] session w refl refl (f .name .0),
-              field-in 65 10 20 s session w [] (rw append-nil) (f .name .0) (length-written (p .number)),
-              read-written (p .number) (f .number) .value,
-            );
-      }
-
-  checked-login : Checked (soup.login (p .user) (p .password) (p .name) (p .number))
-  unfolding read loginOf
-  checked-login =
-      let user = p .user in
-      let password = p .password in
-      let session = p .name in
-      let w = written (p .number) in
-      let s = user ++ password ++ session ++ w in
-      let d = line 76 s in
-      let two : length (user ++ password) ≡ 16 = simp (length-append, f .user .0, f .password .0) in
-      let three : length (user ++ password ++ session) ≡ 26 = simp (length-append, f .user .0, f .password .0, f .name .0) in
-      record {
-        checks = opening d ++ (sizedChecks 48 d ++ loginChecks user password session w);
-        decide =
-            rw (
-              field-in 76 0 6 s [] user (password ++ (session ++ w)) (simp append-assoc) refl (f .user .0),
-              field-in 76 6 10 s user password (session ++ w) (simp append-assoc) (f .user .0) (f .password .0),
-              field-in 76 16 10 s (user ++ password) session w (append-assoc (user ++ password) session w) two (f .name .0),
-              field-in 76 26 20 s (user ++ password ++ session) w [] (rw append-nil) three (length-written (p .number)),
-              read-written (p .number) (f .number) .value,
-            );
-      }
-
-checked-bare : (q : soup.Packet) → Fit q → Checked q
-checked-bare q f = record { checks = []; decide = written-is-read q f }
+-- a packet is found in its line, with its fields
+abbrev Found : soup.Packet → Type 0
+Found q = packetIn (getD (write q) 0 0) (write q) ≡ q
 
 module _ (p : Packet) (f : Flat p) (body : List ℕ) (room : ℕ) (d : List ℕ) where
   abbrev As : ℕ → Type 0
   As kind = soupRead d ≡ keptAs kind p body
 
-  read-as : (q : soup.Packet) → Checked q → reply q room ≡ taken d → soupRead d ≡ flatSoup (packetOf q)
-  read-as q c e = rw (settled read (c .checks) q (write q) room d (c .decide) e .back)
+  read-as : (q : soup.Packet) → Found q → reply q room ≡ taken d → soupRead d ≡ flatSoup (packetOf q)
+  read-as q found e =
+      let w = write q in
+      let decide = read-by-checks w ∙ ap (λ (x : soup.Packet). checked (allChecks w) (taken x)) found in
+      rw (settled read (allChecks w) q w room d decide e .back)
 
-  alone-as : (q : soup.Packet) (size : ℕ) → Checked q → alone 4098 size body (reply q room) ≡ taken d → soupRead d ≡ flatSoup (packetOf q)
-  alone-as q size c e = read-as q c (given-no-body 4098 size body (reply q room) d e .1)
+  alone-as : (q : soup.Packet) (size : ℕ) → Found q → alone lineLimit size body (reply q room) ≡ taken d
+      → soupRead d ≡ flatSoup (packetOf q)
+  alone-as q size found e = read-as q found (given-no-body lineLimit size body (reply q room) d e .1)
 
-  accept-as : alone 4098 32 body (reply (soup.accept (p .name) (p .number)) room) ≡ taken d → soupRead d ≡ named (p .name) (p .number)
-  accept-as e = alone-as (soup.accept (p .name) (p .number)) 32 (checked-accept p f) e ∙ rw (same-name (p .name) (f .name))
+  accept-as : alone lineLimit 32 body (reply (soup.accept (p .name) (p .number)) room) ≡ taken d → soupRead d ≡ named (p .name) (p .number)
+  accept-as e =
+      let found = accept-found (p .name) (written (p .number)) (f .name .0) (length-written (p .number)) in
+      alone-as (soup.accept (p .name) (p .number)) 32 (rw (found .0, found .1, read-written (p .number) (f .number) .value)) e
+      ∙ rw (same-name (p .name) (f .name))
 
-  login-as : alone 4098 48 body (reply (soup.login (p .user) (p .password) (p .name) (p .number)) room) ≡ taken d
+  login-as : alone lineLimit 48 body (reply (soup.login (p .user) (p .password) (p .name) (p .number)) room) ≡ taken d
       → soupRead d ≡ loggedIn (p .user) (p .password) (p .name) (p .number) 0
   login-as e =
-      alone-as (soup.login (p .user) (p .password) (p .name) (p .number)) 48 (checked-login p f) e
+      let n = length-written (p .number) in
+      let found = login-found (p .user) (p .password) (p .name) (written (p .number)) (f .user .0) (f .password .0) (f .name .0) n in
+      alone-as (soup.login (p .user) (p .password) (p .name) (p .number)) 48
+      (rw (found .0, found .1, found .2, found .3, read-written (p .number) (f .number) .value)) e
       ∙ rw (same-user (p .user) (f .user), same-name (p .password) (f .password), same-name (p .name) (f .name))
 
   -- What was written is read with the same fields, and nothing else.
   pub written-then-read : soupReply p body room ≡ taken d → soupRead d ≡ kept p body
-  unfolding soupReply soupBare read Fit
-  written-then-read =
-      let k = p .kind in
-      given-by-kind As k 43 _ _ d (read-as (soup.debug body) (checked-payload 43 soup.debug body refl refl))
-      (given-by-kind As k 83 _ _ d (read-as (soup.sequenced body) (checked-payload 83 soup.sequenced body refl refl))
-      (given-by-kind As k 85 _ _ d (read-as (soup.unsequenced body) (checked-payload 85 soup.unsequenced body refl refl))
-      (given-by-kind As k 65 _ _ d accept-as
-      (given-by-kind As k 74 _ _ d (alone-as (soup.reject (p .reason)) 3 (checked-reject (p .reason)))
-      (given-by-kind As k 76 _ _ d login-as
-      (given-by-kind As k 72 _ _ d (alone-as soup.serverHeartbeat 2 (checked-bare soup.serverHeartbeat tt))
-      (given-by-kind As k 90 _ _ d (alone-as soup.endOfSession 2 (checked-bare soup.endOfSession tt))
-      (given-by-kind As k 82 _ _ d (alone-as soup.clientHeartbeat 2 (checked-bare soup.clientHeartbeat tt))
-      (given-by-kind As k 79 _ _ d (alone-as soup.logout 2 (checked-bare soup.logout tt))
-      (unfit-not-given 4098 (2 + length body) 3 d))))))))))
+  unfolding soupReply soupBare
+  written-then-read e =
+      every-type (λ kind. p .kind ≡ kind → As kind) (p .kind)
+      (record {
+        debug = λ k. read-as (soup.debug body) (rw (payload-line 43 body)) (rw k at e);
+        accept = λ k. accept-as (rw k at e);
+        reject = λ k. alone-as (soup.reject (p .reason)) 3 refl (rw k at e);
+        sequenced = λ k. read-as (soup.sequenced body) (rw (payload-line 83 body)) (rw k at e);
+        serverHeartbeat = λ k. alone-as soup.serverHeartbeat 2 refl (rw k at e);
+        endOfSession = λ k. alone-as soup.endOfSession 2 refl (rw k at e);
+        login = λ k. login-as (rw k at e);
+        unsequenced = λ k. read-as (soup.unsequenced body) (rw (payload-line 85 body)) (rw k at e);
+        clientHeartbeat = λ k. alone-as soup.clientHeartbeat 2 refl (rw k at e);
+        logout = λ k. alone-as soup.logout 2 refl (rw k at e);
+      })
+      (λ u _. unfit-not-given lineLimit (2 + length body) 3 d (sym (unknown-reply p body room u) ∙ e))
+      refl

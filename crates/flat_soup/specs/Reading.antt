@@ -10,7 +10,7 @@ use Rattle.soup.specs.declared.reading.Reading.the-variants as soup
 use Rattle.flat_packet.specs.declared.Read.{Read}
 use Rattle.flat_packet.specs.Packets.{noPacket, bare, named, rejected, payload, loggedIn}
 
--- the type bytes are + A J S H Z L U R O
+-- the type bytes are + A J S H Z L U R O; Round shows that writing these fields again gives the packet
 abbrev pub flatSoup : Reading → Read
 flatSoup (soup.Refused n) = noPacket n
 flatSoup (soup.Debug start size) = payload 43 start size 0

@@ -14,14 +14,12 @@ use flat::wrote::Wrote;
 use flat_packet::Packet;
 use flat_packet::Read;
 use flat_packet::fitting::unfit;
+use soup::line;
 use soup::reading::Reading;
 use wire::kinds::Password;
 use wire::kinds::Sequence;
 use wire::output::Written;
 use wire::refusal;
-
-// The most bytes that a Soup packet may have.
-const LONGEST_LINE: usize = 4098;
 
 fn flat_of(said: Reading) -> Read
     ensures { λ r. ⌜ r ≡ flatSoup said ⌝ }
@@ -76,29 +74,29 @@ fn bare_written(kind: u8, body: &[u8], out: &mut [u8]) -> Written
     match kind {
         b'H' => {
             if body.len() != 0 {
-                return unfit(LONGEST_LINE, 2, body, refusal::FRAMING);
+                return unfit(line::LONGEST, 2, body, refusal::FRAMING);
             }
             soup_write::write_server_heartbeat(out)
         }
         b'Z' => {
             if body.len() != 0 {
-                return unfit(LONGEST_LINE, 2, body, refusal::FRAMING);
+                return unfit(line::LONGEST, 2, body, refusal::FRAMING);
             }
             soup_write::write_end_of_session(out)
         }
         b'R' => {
             if body.len() != 0 {
-                return unfit(LONGEST_LINE, 2, body, refusal::FRAMING);
+                return unfit(line::LONGEST, 2, body, refusal::FRAMING);
             }
             soup_write::write_client_heartbeat(out)
         }
         b'O' => {
             if body.len() != 0 {
-                return unfit(LONGEST_LINE, 2, body, refusal::FRAMING);
+                return unfit(line::LONGEST, 2, body, refusal::FRAMING);
             }
             soup_write::write_logout(out)
         }
-        _ => unfit(LONGEST_LINE, 2, body, refusal::UNKNOWN_TYPE),
+        _ => unfit(line::LONGEST, 2, body, refusal::UNKNOWN_TYPE),
     }
 }
 
@@ -127,7 +125,7 @@ fn written(fields: Packet, body: &[u8], out: &mut [u8]) -> Written
         b'U' => soup_write::write_unsequenced(body, out),
         b'A' => {
             if body.len() != 0 {
-                return unfit(LONGEST_LINE, 32, body, refusal::FRAMING);
+                return unfit(line::LONGEST, 32, body, refusal::FRAMING);
             }
             let text = fields.name;
             let name = name_of(&text);
@@ -135,14 +133,14 @@ fn written(fields: Packet, body: &[u8], out: &mut [u8]) -> Written
         }
         b'J' => {
             if body.len() != 0 {
-                return unfit(LONGEST_LINE, 3, body, refusal::FRAMING);
+                return unfit(line::LONGEST, 3, body, refusal::FRAMING);
             }
             let reason = fields.reason;
             soup_write::write_reject(reason, out)
         }
         b'L' => {
             if body.len() != 0 {
-                return unfit(LONGEST_LINE, 48, body, refusal::FRAMING);
+                return unfit(line::LONGEST, 48, body, refusal::FRAMING);
             }
             login_written(fields, out)
         }
@@ -151,7 +149,8 @@ fn written(fields: Packet, body: &[u8], out: &mut [u8]) -> Written
 }
 
 pub fn write(fields: Packet, body: &[u8], out: &mut [u8]) -> Wrote
-    ensures { λ r. ⌜ FlatSettled (soupReply fields (now (body .entry)) (length (now (out .entry)))) (now (out .entry)) r (now (out .exit)) ⌝ }
+    ensures { λ r. ⌜ FlatSettled (soupReply fields (now (body .entry)) (length (now (out .entry)))) (now (out .entry)) r
+        (now (out .exit)) ⌝ }
 {
     wrote::wrote_of(written(fields, body, out))
 }

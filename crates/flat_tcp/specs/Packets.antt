@@ -12,7 +12,7 @@ use Rattle.memx_tcp.specs.declared.reading.Tcp.the-variants.{Refused, Packet}
 use Rattle.flat_tcp.specs.declared.FlatTcp.{FlatTcp}
 use Rattle.flat_tcp.specs.declared.FlatTcpReading.{FlatTcpReading}
 
--- on a refusal every other number is 0
+-- on a refusal every other number is 0; Round shows that writing these fields gives the same bytes
 abbrev pub flatTcp : Tcp → FlatTcpReading
 flatTcp (Refused n) = record {
   refusal = n;
@@ -44,7 +44,7 @@ flatTcp (Packet p start length) = record {
 abbrev pub tcpRead : List ℕ → FlatTcpReading
 tcpRead d = flatTcp (tcpOf (read d))
 
--- what is written of them: where a token or payload stood is not looked at
+-- what is written of them: where a token or payload stood is not looked at; Round shows that reading it gives each field again
 abbrev pub fieldsOf : FlatTcp → Fields
 fieldsOf p = record {
   kind = p .kind;

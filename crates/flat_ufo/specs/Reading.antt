@@ -10,7 +10,7 @@ use Rattle.ufo.specs.declared.down.Down.the-variants as down
 use Rattle.flat_packet.specs.declared.Read.{Read}
 use Rattle.flat_packet.specs.Packets.{noPacket, named, rejected, numbered, counted}
 
--- of a packet of so many bytes: A J S E
+-- of a packet of so many bytes: A J S E; `Round` shows that what was read is written with the same bytes
 abbrev pub flatDown : ℕ → Down → Read
 flatDown size (down.Refused n) = noPacket n
 flatDown size (down.Accept session next) = named (nameBytes session) (next .0)

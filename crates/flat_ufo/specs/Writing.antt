@@ -10,7 +10,7 @@ use Rattle.ufo_write.specs.WriteDown.{acceptReply, rejectReply, messagesReply, 
 use Rattle.flat_packet.specs.declared.Packet.{Packet}
 use Rattle.flat_packet.specs.Fitting.{unfit, alone}
 
--- A J S E
+-- A J S E. `Round` shows that what is written is read with the same fields, `Refusing` that the reader refuses what is refused here
 unfoldable pub downReply : Packet → List ℕ → ℕ → Reply
 downReply p body room =
     if p .kind is 65 then alone limit 15 body (acceptReply (p .name) (p .number) room) else

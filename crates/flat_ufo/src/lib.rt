@@ -37,7 +37,8 @@ pub fn read(packet: &[u8]) -> Read
 }
 
 fn written(fields: Packet, body: &[u8], out: &mut [u8]) -> Written
-    ensures { λ r. ⌜ Settled (downReply fields (now (body .entry)) (length (now (out .entry)))) (now (out .entry)) r (now (out .exit)) ⌝ }
+    ensures { λ r. ⌜ Settled (downReply fields (now (body .entry)) (length (now (out .entry))))
+        (now (out .entry)) r (now (out .exit)) ⌝ }
 {
     let kind = fields.kind;
     let number = fields.number;
@@ -70,7 +71,8 @@ fn written(fields: Packet, body: &[u8], out: &mut [u8]) -> Written
 }
 
 pub fn write(fields: Packet, body: &[u8], out: &mut [u8]) -> Wrote
-    ensures { λ r. ⌜ FlatSettled (downReply fields (now (body .entry)) (length (now (out .entry)))) (now (out .entry)) r (now (out .exit)) ⌝ }
+    ensures { λ r. ⌜ FlatSettled (downReply fields (now (body .entry)) (length (now (out .entry))))
+        (now (out .entry)) r (now (out .exit)) ⌝ }
 {
     wrote::wrote_of(written(fields, body, out))
 }

@@ -165,11 +165,9 @@ module _ (d : List ℕ) (b : Bytes d) (place : ℕ) where
       let r = found d b place m e in
       let same : r .skipped ≡ place = omega (arith, r .there) in
       let s : drop place d ≡ frame (writeMessage m) ++ r .after = rw same at (r .block) in
-      let a = flat-again d place m (r .after) (r .fit) s in (
-        a .0 ∙ sym (type-byte d place m (r .after) s),
-        λ room. a .1 room ∙ rw (whole-block d place m (r .after) s (r .fit))
-            (reply-fit m room (r .fit)),
-      ))
+      let a = flat-again d place m (r .after) (r .fit) s in
+      let block = whole-block d place m (r .after) s (r .fit) in
+      (a .0 ∙ sym (type-byte d place m (r .after) s), λ room. a .1 room ∙ rw block (reply-fit m room (r .fit))))
 
   -- What was read of a message, written with its body, is its block.
   pub read-then-written : (room : ℕ) → messageRead d place .refusal ≡ 0 → let p = messageRead d place .packet in

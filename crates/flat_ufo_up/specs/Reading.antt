@@ -20,7 +20,7 @@ flatUpstream (upstream.Messages count) = requested 0 0 count 0
 abbrev pub upRead : List ℕ → Read
 upRead d = flatUpstream (upstreamOf (readUp d))
 
--- one message: L T U R O
+-- one message: L T U R O; `Round` shows that what was read is written as the same block
 abbrev pub flatUp : Up → Read
 flatUp (up.Refused n) = noPacket n
 flatUp (up.Login user password session next) = loggedIn (userBytes user) (nameBytes (password .0)) (nameBytes session) 0 next

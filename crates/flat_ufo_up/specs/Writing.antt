@@ -11,7 +11,8 @@ use Rattle.ufo_up_write.specs.WriteUp as ufo
 use Rattle.flat_packet.specs.declared.Packet.{Packet}
 use Rattle.flat_packet.specs.Fitting.{unfit, alone}
 
--- L T U R O, each in a block of its own
+-- L T U R O, each in a block of its own. `Round` shows that what is written is read with the same fields, `Refusing` that the reader
+-- refuses what is refused here
 unfoldable pub messageReply : Packet → List ℕ → ℕ → Reply
 messageReply p body room =
     if p .kind is 76 then alone limit 29 body (ufo.reply (up.login (p .user) (p .password) (p .name)) room) else

@@ -69,8 +69,8 @@ pub fn read_message(packet: &[u8], place: u64) -> Read
 }
 
 fn login_written(fields: Packet, out: &mut [u8]) -> Written
-    ensures { λ r. ⌜ Settled (reply (login (fields .user) (fields .password) (fields .name)) (length (now (out .entry)))) (now (out .entry))
-        r (now (out .exit)) ⌝ }
+    ensures { λ r. ⌜ Settled (reply (login (fields .user) (fields .password) (fields .name)) (length (now (out .entry))))
+        (now (out .entry)) r (now (out .exit)) ⌝ }
 {
     let user_text = fields.user;
     let password_text = fields.password;
@@ -82,7 +82,8 @@ fn login_written(fields: Packet, out: &mut [u8]) -> Written
 }
 
 fn written(fields: Packet, body: &[u8], out: &mut [u8]) -> Written
-    ensures { λ r. ⌜ Settled (messageReply fields (now (body .entry)) (length (now (out .entry)))) (now (out .entry)) r (now (out .exit)) ⌝ }
+    ensures { λ r. ⌜ Settled (messageReply fields (now (body .entry)) (length (now (out .entry))))
+        (now (out .entry)) r (now (out .exit)) ⌝ }
 {
     let kind = fields.kind;
     let number = fields.number;
@@ -118,8 +119,8 @@ fn written(fields: Packet, body: &[u8], out: &mut [u8]) -> Written
 }
 
 pub fn write_message(fields: Packet, body: &[u8], out: &mut [u8]) -> Wrote
-    ensures { λ r. ⌜ FlatSettled (messageReply fields (now (body .entry)) (length (now (out .entry)))) (now (out .entry)) r
-        (now (out .exit)) ⌝ }
+    ensures { λ r. ⌜ FlatSettled (messageReply fields (now (body .entry)) (length (now (out .entry))))
+        (now (out .entry)) r (now (out .exit)) ⌝ }
 {
     wrote::wrote_of(written(fields, body, out))
 }

@@ -60,12 +60,8 @@ module _ (area bs : List ℕ) (i j : ℕ) (apart : (i ≡ j) → ⊥) (small : l
       ap (take 1472) (drop-sets (1472 * j) area (1472 * i) bs (omega arith)))
       (λ e.
       let l = leb-false i j e in
-      rw (
-        part (1472 * j) 1472 (sets area (1472 * i) bs),
-        take-sets (1472 * j + 1472) area (1472 * i) bs (omega arith),
-        part (1472 * j) 1472
-            area,
-      ))
+      let front = part (1472 * j) 1472 in
+      rw (front (sets area (1472 * i) bs), take-sets (1472 * j + 1472) area (1472 * i) bs (omega arith), front area))
 
   pub other-stated : stated (slotAt (sets area (1472 * i) bs) j) ≡ stated (slotAt area j)
   other-stated = same-stated (slotAt (sets area (1472 * i) bs) j) (slotAt area j) other-slot
@@ -78,11 +74,11 @@ module _ (area message : List ℕ) (i : ℕ) (h : i < 32) (fits : length message
   stored-slot : slotAt (sets area (1472 * i) (frame message)) i ≡ frame message ++ drop (1472 * i + length (frame message)) area
   stored-slot =
       let l = length-frame message in
-      let a : 1472 * i ≤ length area = omega arith in
-      ap (drop (1472 * i)) (sets-eq (frame message) area (1472 * i) (omega arith) ∙ append-assoc (take (1472 * i) area) (frame message)
-      (drop (1472 * i + length (frame message)) area))
-      ∙ drop-at (take (1472 * i) area) (frame message ++ drop (1472 * i + length (frame message)) area) (1472 * i)
-      (length-take-le (1472 * i) area a)
+      let at : ℕ = 1472 * i in
+      let a : at ≤ length area = omega arith in
+      let behind = drop (at + length (frame message)) area in
+      ap (drop at) (sets-eq (frame message) area at (omega arith) ∙ append-assoc (take at area) (frame message) behind)
+      ∙ drop-at (take at area) (frame message ++ behind) at (length-take-le at area a)
 
   pub stored-stated : stated (slotAt (sets area (1472 * i) (frame message)) i) ≡ length message
   stored-stated = rw stored-slot (front-stated message (drop (1472 * i + length (frame message)) area) (omega arith))

@@ -1,6 +1,6 @@
 -- The bitmap of full slots: filling or freeing one slot leaves the others, and freeing a run of messages frees exactly their slots.
 -- Assumes nothing.
-use Prim.Native.Nat.{ℕ, zero, suc, _+_, _*_, _%_, _^_, _≤_, _<_}
+use Prim.Native.Nat.{ℕ, zero, suc, _+_, _*_, _%_, _^_, _<_}
 use mathlib.Core.Path.{_≡_, refl, sym, _∙_}
 use mathlib.Core.Bool.{Bool, true, false, not, _&&_, _||_, and-true, and-false, or-true, or-false, true≢false}
 use native.Mathlib.Omega.{arith}
@@ -13,10 +13,13 @@ use Rattle.held.specs.Slots.{slotOf, isFull, full, filled, freed, freedF
 use Rattle.held.specs.Hanging.{every}
 use Rattle.held.proofs.Bits.{set-bit, clear-bit, no-bit}
 
+-- a slot that is filled is full, and one that is freed is not; any other is as it was
 pub full-filled : (held i j : ℕ) → isFull (filled held i) j ≡ (isFull held j || j is i)
 full-filled held i j =
     by-test (isFull held i)
-    (λ e. rw e (by-test (eqb j i) (λ q. rw (q, or-true (isFull held j)) (rw (← eqb-true j i q) at e))
+    (λ e.
+    rw e (by-test (eqb j i)
+    (λ q. rw (q, or-true (isFull held j)) (rw (← eqb-true j i q) at e))
     (λ q. rw q (sym (or-false (isFull held j))))))
     (λ e. rw e (set-bit i j held e))
 
@@ -24,7 +27,9 @@ pub full-freed : (held i j : ℕ) → isFull (freed held i) j ≡ (isFull held j
 full-freed held i j =
     by-test (isFull held i)
     (λ e. rw e (clear-bit i j held e))
-    (λ e. rw e (by-test (eqb j i) (λ q. rw (q, and-false (isFull held j)) (rw (← eqb-true j i q) at e))
+    (λ e.
+    rw e (by-test (eqb j i)
+    (λ q. rw (q, and-false (isFull held j)) (rw (← eqb-true j i q) at e))
     (λ q. rw q (sym (and-true (isFull held j))))))
 
 pub none-full : (i : ℕ) → isFull 0 i ≡ false
@@ -83,10 +88,6 @@ freed-stays (suc k) held m n f =
   where
     moved : (m j : ℕ) → suc m + j ≡ m + suc j
     moved m j = omega arith
-
--- a bitmap keeps its 32 bits
-pub freed-smaller : (held i : ℕ) → freed held i ≤ held
-freed-smaller held i = by-test (isFull held i) (λ e. rw e (omega arith)) (λ e. rw e (omega arith))
 
 -- messages fewer than 32 apart have slots apart
 pub slots-apart : (m j : ℕ) → 0 < j → j < 32 → (slotOf (m + j) ≡ slotOf m) → ⊥

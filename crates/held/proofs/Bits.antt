@@ -16,8 +16,9 @@ first-bit : (h : ℕ) → isFull h 0 ≡ (h % 2 is 1)
 first-bit h = let e : h / 1 ≡ h = omega arith in ap (λ (x : ℕ). x % 2 is 1) e
 
 pub next-bit : (h i : ℕ) → isFull h (suc i) ≡ isFull (h / 2) i
-next-bit h i = let e : 1 + i ≡ suc i = omega arith in ap (λ (x : ℕ). h / 2 ^ x % 2 is 1) (sym e) ∙ ap (λ (x : ℕ). x % 2 is 1)
-    (sym (shr-shr h 1 i))
+next-bit h i =
+    let e : 1 + i ≡ suc i = omega arith in
+    ap (λ (x : ℕ). h / 2 ^ x % 2 is 1) (sym e) ∙ ap (λ (x : ℕ). x % 2 is 1) (sym (shr-shr h 1 i))
 
 -- twice a power of two
 doubled : (i : ℕ) → 2 ^ suc i ≡ 2 ^ i * 2

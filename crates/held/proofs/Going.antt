@@ -10,8 +10,7 @@ use lib.ListN.{length, take, length-drop, length-append}
 use lib.Seq.{sets, take-at}
 use lib.Dec.{leb}
 use Rattle.wire.specs.Fields.{Bytes}
-use Rattle.wire.proofs.Width.{bytes-drop}
-use Rattle.wire.proofs.Width.{sets-append}
+use Rattle.wire.proofs.Width.{bytes-drop, sets-append}
 use Rattle.blocks.specs.Blocks.{frame, frames, stated, there, first, rest}
 use Rattle.blocks.proofs.Frames.{length-frame, length-first, framed-again}
 use Rattle.held.specs.Slots.{areaSize, longest, slotOf, isFull, full, freed, freedFrom, slotAt, heldMessage}
@@ -56,9 +55,10 @@ module _ (n held m : ℕ) where
   run-goes h e = by n h where
     by : (n : ℕ) → 0 < n → run n held m ≡ 1 + run (n - 1) held (m + 1)
     by zero h = absurd (omega arith)
-    by (suc n) h = let q : suc n - 1 ≡ n = omega arith in
-        rw (e, q, ← one-more m) (one-more (run n held (suc m)) ∙ (let z : run n held (suc m) + 1 ≡ 1 + run n held (suc m) = omega arith in
-        z))
+    by (suc n) h =
+        let q : suc n - 1 ≡ n = omega arith in
+        let z : suc (run n held (suc m)) ≡ 1 + run n held (suc m) = omega arith in
+        rw (e, q, ← one-more m) z
 
 module _ (p : ℕ → Bool) (n : ℕ) (h : 0 < n) where
   pub every-step : p (n - 1) ≡ true → every n p ≡ every (n - 1) p
@@ -107,6 +107,14 @@ module _ (held : ℕ) (area : List ℕ) (i : ℕ) where
   pub overlong : isFull held i ≡ true → longest < stated (slotAt area i) → fits held area i ≡ false
   overlong e l = rw (e, lt-leb (stated (slotAt area i)) longest l)
 
+-- of count messages from a number on, whose slots have room for what they state, some are left: what the slot of the next one states
+pub next-states : (area : List ℕ) (number count left slot n : ℕ) → Fitting area number count → 0 < left → left ≤ count
+    → slot ≡ slotOf (number + (count - left)) → n ≡ stated (slotAt area slot)
+    → (n ≡ stated (slotAt area (slotOf (number + (count - left))))) × (n ≤ longest)
+next-states area number count left slot n f some all s e =
+    let same = e ∙ ap (λ (i : ℕ). stated (slotAt area i)) s in
+    (same, rw same (f .room (count - left) (omega arith)))
+
 pub run-fits : (held : ℕ) (area : List ℕ) (m : ℕ) → sound held area ≡ true → Fitting area m (run 31 held m)
 run-fits held area m e =
     let f = sound-fits held area e in
@@ -124,8 +132,8 @@ module _ (area : List ℕ) (b : Bytes area) (long : areaSize ≤ length area) (m
   held-block =
       let s = slotAt area (slotOf m) in
       let l : length (frame (first s)) ≡ 2 + stated s = length-frame (first s) ∙ ap (λ (n : ℕ). 2 + n) length-message in
-      sym (ap (take (2 + stated s)) (sym (framed-again s whole-there (bytes-drop (1472 * slotOf m) area b))) ∙ take-at (frame (first s))
-      (rest s) (2 + stated s) l)
+      sym (ap (take (2 + stated s)) (sym (framed-again s whole-there (bytes-drop (1472 * slotOf m) area b)))
+      ∙ take-at (frame (first s)) (rest s) (2 + stated s) l)
 
 held-step : (n : ℕ) (area : List ℕ) (m : ℕ) → 0 < n → heldFrom n area m ≡ heldMessage area m ∷ heldFrom (n - 1) area (m + 1)
 unfolding heldFrom
@@ -148,15 +156,19 @@ module _ (n : ℕ) (area : List ℕ) (b : Bytes area) (m : ℕ) (h : 0 < n) (lon
   first-then = rw (held-step n area m h) (ap (λ (x : List ℕ). x ++ others) (held-block area b long m room))
 
   length-size : length (take size (slotAt area (slotOf m))) ≡ size
-  length-size = sym (ap length (held-block area b long m room)) ∙ length-frame (heldMessage area m) ∙ ap (λ (k : ℕ). 2 + k)
-      (length-message area b long m room)
+  length-size =
+      sym (ap length (held-block area b long m room))
+      ∙ length-frame (heldMessage area m)
+      ∙ ap (λ (k : ℕ). 2 + k) (length-message area b long m room)
 
   pub size-step : length (frames (heldFrom n area m)) ≡ size + length others
-  size-step = ap length first-then ∙ length-append (take size (slotAt area (slotOf m))) others ∙ ap (λ (k : ℕ). k + length others)
-      length-size
+  size-step =
+      ap length first-then
+      ∙ length-append (take size (slotAt area (slotOf m))) others
+      ∙ ap (λ (k : ℕ). k + length others) length-size
 
-  pub lay-step : (out : List ℕ) (to : ℕ) → sets out to (frames (heldFrom n area m)) ≡ sets
-      (sets out to (take size (slotAt area (slotOf m)))) (to + size) others
+  pub lay-step : (out : List ℕ) (to : ℕ)
+      → sets out to (frames (heldFrom n area m)) ≡ sets (sets out to (take size (slotAt area (slotOf m)))) (to + size) others
   lay-step out to =
       ap (sets out to) first-then ∙ sym (sets-append out to (take size (slotAt area (slotOf m))) others)
       ∙ ap (λ (k : ℕ). sets (sets out to (take size (slotAt area (slotOf m)))) (to + k) others) length-size

@@ -60,8 +60,8 @@ module _ (held next top : ℕ) (e : inPlace held next top ≡ true) where
         none l = omega arith
 
   -- what is full after the slots from N on fell free stands for the same number as before
-  pub still-numbered : (n d : ℕ) → d < 32 → full (freedFrom n held next) (next + n + d) ≡ true → (n + d < 32) × (1 ≤ n + d)
-      × (next + n + d ≤ top)
+  pub still-numbered : (n d : ℕ) → d < 32 → full (freedFrom n held next) (next + n + d) ≡ true
+      → (n + d < 32) × (1 ≤ n + d) × (next + n + d ≤ top)
   still-numbered n d h f =
       by-test (leb 32 (n + d))
       (λ q.

@@ -147,14 +147,14 @@ module _ (next : ℕ) (h : Holding) (m : ℕ) (message : List ℕ) (r : Room nex
             one-number : (next d m : ℕ) → d < 32 → next + 1 ≤ m → m ≤ next + 31 → slotOf (next + d) ≡ slotOf m → next + d ≡ m
             one-number next d m b p n q = omega arith
 
-  lays-new : (n : ℕ) → next + 1 ≤ n → n ≤ next + 31 → full (k .held) n ≡ true → (full (h .held) n ≡ true)
-      ⊎ ((n ≡ m) × (heldMessage (k .area) n ≡ message))
+  lays-new : (n : ℕ) → next + 1 ≤ n → n ≤ next + 31 → full (k .held) n ≡ true
+      → (full (h .held) n ≡ true) ⊎ ((n ≡ m) × (heldMessage (k .area) n ≡ message))
   lays-new n a b f = by (either (full (h .held) n) (eqb (slotOf n) (slotOf m)) (sym (laid-full (slotOf n)) ∙ f)) where
     one-number : (next n m : ℕ) → next + 1 ≤ n → n ≤ next + 31 → next + 1 ≤ m → m ≤ next + 31 → slotOf n ≡ slotOf m → n ≡ m
     one-number next n m p q s t e = omega arith
 
-    by : (full (h .held) n ≡ true) ⊎ (eqb (slotOf n) (slotOf m) ≡ true) → (full (h .held) n ≡ true)
-        ⊎ ((n ≡ m) × (heldMessage (laid h m message .area) n ≡ message))
+    by : (full (h .held) n ≡ true) ⊎ (eqb (slotOf n) (slotOf m) ≡ true)
+        → (full (h .held) n ≡ true) ⊎ ((n ≡ m) × (heldMessage (laid h m message .area) n ≡ message))
     by (inl f) = inl f
     by (inr s) =
         let e = one-number next n m a b (r .past) (r .near) (eqb-true (slotOf n) (slotOf m) s) in
@@ -177,8 +177,8 @@ module _ (next : ℕ) where
     one-new : (n : ℕ) → next + 1 ≤ n → n ≤ next + 31 → full (holdOne next h m message .held) n ≡ true
         → (full (h .held) n ≡ true) ⊎ ((n ≡ m) × (heldMessage (holdOne next h m message .area) n ≡ message))
     one-new n a b = by (holdOne next h m message) (holds next h m message) where
-      by : (k : Holding) → Holds next h m message k → full (k .held) n ≡ true → (full (h .held) n ≡ true)
-          ⊎ ((n ≡ m) × (heldMessage (k .area) n ≡ message))
+      by : (k : Holding) → Holds next h m message k → full (k .held) n ≡ true
+          → (full (h .held) n ≡ true) ⊎ ((n ≡ m) × (heldMessage (k .area) n ≡ message))
       by _ (lays r) f = lays-new next h m message r n a b f
       by _ (keeps _) f = inl f
 
@@ -204,7 +204,8 @@ module _ (next : ℕ) where
   all-in-place h m (x ∷ ms) top e l =
       all-in-place (holdOne next h m x) (suc m) ms top (one-in-place h m x top e (omega arith)) (omega arith)
 
-  -- what is newly held as number n is the packet's message of that number
+  -- what is newly held as number n is the packet's message of that number: by the first message, whose slot keeps what it has from then on,
+  -- or by one behind it
   pub all-new : (h : Holding) (m : ℕ) (ms : List (List ℕ)) → Fits (h .held) (h .area) → (n : ℕ) → next + 1 ≤ n → n ≤ next + 31
       → full (holdAll next h m ms .held) n ≡ true
       → (full (h .held) n ≡ true) ⊎ ((m ≤ n) × (n < m + length ms) × (heldMessage (holdAll next h m ms .area) n ≡ getD ms (n - m) []))
@@ -217,15 +218,12 @@ module _ (next : ℕ) where
     l : Holding
     l = holdAll next k (suc m) ms
 
-    at-first : n ≡ m → heldMessage (k .area) n ≡ x → full (k .held) n ≡ true → (m ≤ n) × (n < m + suc (length ms))
-        × (heldMessage (l .area) n ≡ getD (x ∷ ms) (n - m) [])
+    at-first : n ≡ m → heldMessage (k .area) n ≡ x → full (k .held) n ≡ true
+        → (m ≤ n) × (n < m + suc (length ms)) × (heldMessage (l .area) n ≡ getD (x ∷ ms) (n - m) [])
     at-first e q g =
-        let z : n - m ≡ 0 = omega arith in (
-          omega arith,
-          omega arith,
-          all-keeps k (suc m) ms .same (one-keeps h m x .fits p) n g ∙ q ∙ ap (λ (i : ℕ). getD (x ∷ ms) i [])
-              (sym z),
-        )
+        let z : n - m ≡ 0 = omega arith in
+        let same = all-keeps k (suc m) ms .same (one-keeps h m x .fits p) n g in
+        (omega arith, omega arith, same ∙ q ∙ ap (λ (i : ℕ). getD (x ∷ ms) i []) (sym z))
 
     here : full (k .held) n ≡ true → (full (h .held) n ≡ true) ⊎ ((n ≡ m) × (heldMessage (k .area) n ≡ x))
         → (full (h .held) n ≡ true) ⊎ ((m ≤ n) × (n < m + suc (length ms)) × (heldMessage (l .area) n ≡ getD (x ∷ ms) (n - m) []))
@@ -262,7 +260,8 @@ module _ (next : ℕ) where
     by : (k : Holding) → Holds next h m message k → holdable next k m message ≡ false
     by _ (lays r) =
         let f : full (laid h m message .held) m ≡ true =
-        full-filled (h .held) (slotOf m) (slotOf m) ∙ ap (λ (b : Bool). full (h .held) m || b) (eq-eqb (slotOf m) (slotOf m) refl)
+        full-filled (h .held) (slotOf m) (slotOf m)
+        ∙ ap (λ (b : Bool). full (h .held) m || b) (eq-eqb (slotOf m) (slotOf m) refl)
         ∙ or-true (full (h .held) m) in
         rw (f, and-false (leb (next + 1) m && leb m (next + 31)))
     by _ (keeps e) = e

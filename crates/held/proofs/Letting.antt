@@ -26,16 +26,16 @@ module _ (held : ℕ) (area : List ℕ) (m at : ℕ) (out : List ℕ) where
       (record { answer = refl; bytes = refl })
 
   -- nothing is held
-  pub nothing-goes : sound held area ≡ true → held ≡ 0 → at ≤ length out → Settled (releasing held area m at (length out)) at out
-      (gives.Messages 0 0) out
+  pub nothing-goes : sound held area ≡ true → held ≡ 0 → at ≤ length out
+      → Settled (releasing held area m at (length out)) at out (gives.Messages 0 0) out
   unfolding frames
   nothing-goes e z h =
       let none : released held area m ≡ [] = released-none held area m (rw z (none-full (slotOf m))) in
       rw (e, none, le-leb (at + 0) (length out) (omega arith)) (record { answer = refl; bytes = refl })
 
   module _ (e : sound held area ≡ true) (k : ℕ) (q : k ≡ run 31 held m) where
-    pub too-little : length out < at + length (frames (heldFrom k area m)) → Settled (releasing held area m at (length out)) at out
-        (gives.Refused 9) out
+    pub too-little : length out < at + length (frames (heldFrom k area m))
+        → Settled (releasing held area m at (length out)) at out (gives.Refused 9) out
     too-little h = rw (e, lt-leb (at + length (frames (released held area m))) (length out) (rw q at h))
         (record { answer = refl; bytes = refl })
 

@@ -9,7 +9,7 @@ use borrow.Author.Tests.{leb-true, leb-false}
 use lib.Dec.{leb}
 use lib.ListN.{length, getD, drop, length-take}
 use Rattle.wire.proofs.Tests.{by-test}
-use Rattle.blocks.specs.Blocks.{frames, stated, first, Each, Short}
+use Rattle.blocks.specs.Blocks.{frames, stated, first}
 use Rattle.blocks.proofs.Frames.{length-frames, frames-none}
 use Rattle.held.specs.Slots.{longest, slotOf, isFull, full, freedFrom, slotAt, heldMessage}
 use Rattle.held.specs.Hanging.{inPlace}
@@ -27,15 +27,16 @@ run-within (suc n) held m =
 pub run-full : (n held m j : ℕ) → j < run n held m → full held (m + j) ≡ true
 unfolding run
 run-full zero held m j h = absurd (omega arith)
-run-full (suc n) held m j h = by-test (full held m) (λ e. by j e (rw e at h) (run-full n held (suc m))) (λ e. absurd (none (rw e at h)))
-  where
-    none : j < 0 → ⊥
-    none l = omega arith
+run-full (suc n) held m j h =
+    by-test (full held m) (λ e. by j e (rw e at h) (run-full n held (suc m))) (λ e. absurd (none (rw e at h))) where
+      none : j < 0 → ⊥
+      none l = omega arith
 
-    by : (j : ℕ) → full held m ≡ true → j < suc (run n held (suc m)) → ((j : ℕ) → j < run n held (suc m) → full held (suc m + j) ≡ true)
-        → full held (m + j) ≡ true
-    by zero e l more = let y : m + 0 ≡ m = omega arith in rw y e
-    by (suc j) e l more = let t : m + suc j ≡ suc m + j = omega arith in rw t (more j (omega arith))
+      by : (j : ℕ) → full held m ≡ true → j < suc (run n held (suc m))
+          → ((j : ℕ) → j < run n held (suc m) → full held (suc m + j) ≡ true)
+          → full held (m + j) ≡ true
+      by zero e l more = let y : m + 0 ≡ m = omega arith in rw y e
+      by (suc j) e l more = let t : m + suc j ≡ suc m + j = omega arith in rw t (more j (omega arith))
 
 pub run-stops : (n held m : ℕ) → run n held m < n → full held (m + run n held m) ≡ false
 unfolding run
@@ -84,16 +85,6 @@ module _ (area : List ℕ) where
         moved : (m j : ℕ) → stated (slotAt area (slotOf (m + suc j))) ≤ longest → stated (slotAt area (slotOf (suc m + j))) ≤ longest
         moved m j h = let t : suc m + j ≡ m + suc j = omega arith in rw t h
 
-  pub held-short : (k m : ℕ) → ((j : ℕ) → j < k → stated (slotAt area (slotOf (m + j))) ≤ longest) → Each Short (heldFrom k area m)
-  unfolding heldFrom
-  held-short zero m f = tt
-  held-short (suc k) m f =
-      let y : m + 0 ≡ m = omega arith in
-      let s = rw y at (f 0 (omega arith)) in
-      (omega (arith, first-short (slotAt area (slotOf m))), held-short k (suc m) (λ j h. moved m j (f (suc j) (omega arith)))) where
-        moved : (m j : ℕ) → stated (slotAt area (slotOf (m + suc j))) ≤ longest → stated (slotAt area (slotOf (suc m + j))) ≤ longest
-        moved m j h = let t : suc m + j ≡ m + suc j = omega arith in rw t h
-
 -- what is released from message m on
 module _ (held : ℕ) (area : List ℕ) (m : ℕ) where
   pub length-released : length (released held area m) ≡ run 31 held m
@@ -111,9 +102,6 @@ module _ (held : ℕ) (area : List ℕ) (m : ℕ) where
     -- at most 31 slots of bytes
     pub released-lean : length (frames (released held area m)) ≤ 45632
     released-lean = let l = held-lean area (run 31 held m) m fitting in let r = run-within 31 held m in omega arith
-
-    pub released-short : Each Short (released held area m)
-    released-short = held-short area (run 31 held m) m fitting
 
 -- k messages go out from N on, and then what is held from there on
 module _ (held next top k : ℕ) (e : inPlace held next top ≡ true) where

@@ -43,8 +43,7 @@ module _ (next held m : ℕ) (area message : List ℕ) where
             le-leb (next + 1) m (omega arith),
             le-leb m (next + 31) (omega arith),
             c,
-            le-leb (length message) longest
-                d,
+            le-leb (length message) longest d,
             lt-leb areaSize (length area) e,
           ) (record { bitmap = refl; bytes = refl })
 
@@ -54,7 +53,6 @@ module _ (next held m : ℕ) (area message : List ℕ) where
             le-leb (next + 1) m (omega arith),
             le-leb m (next + 31) (omega arith),
             c,
-            le-leb (length message) longest
-                d,
+            le-leb (length message) longest d,
             le-leb areaSize (length area) e,
           ) (record { bitmap = refl; bytes = refl })

@@ -17,7 +17,7 @@ every (suc n) p = p n && every n p
 abbrev pub placed : (held next top d : ℕ) → Bool
 placed held next top d = not (full held (next + d)) || (1 atMost d && next + d atMost top)
 
--- a full slot stands for one of N+1 to N+31, and not for one above T
+-- a full slot stands for one of N+1 to N+31, and not for one above T; Hangs.in-place and in-place-so say it number by number
 unfoldable pub inPlace : (held next top : ℕ) → Bool
 inPlace held next top = every 32 (placed held next top)
 
@@ -25,6 +25,6 @@ inPlace held next top = every 32 (placed held next top)
 abbrev pub fits : ℕ → List ℕ → ℕ → Bool
 fits held area i = not (isFull held i) || stated (slotAt area i) atMost longest
 
--- the area has 32 slots, and every full one fits
+-- the area has 32 slots, and every full one fits; Hangs.sound-fits and fits-sound say it slot by slot
 unfoldable pub sound : ℕ → List ℕ → Bool
 sound held area = areaSize atMost length area && every 32 (fits held area)

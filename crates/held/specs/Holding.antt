@@ -31,11 +31,11 @@ laid h m message = record {
   area = sets (h .area) (1472 * slotOf m) (frame message);
 }
 
--- a full slot keeps what it has, and numbers past N+31 are thrown away
+-- a full slot keeps what it has, and numbers past N+31 are thrown away: Holds.full-kept, past-thrown
 unfoldable pub holdOne : (next : ℕ) → Holding → (m : ℕ) → List ℕ → Holding
 holdOne next h m message = if holdable next h m message then laid h m message else h
 
--- messages numbered from m on
+-- messages numbered from m on; Holds.all-new: each under its own number, all-keeps: what was held stays, held-again: once
 unfoldable pub holdAll : (next : ℕ) → Holding → (m : ℕ) → List (List ℕ) → Holding
 holdAll next h m [] = h
 holdAll next h m (message ∷ messages) = holdAll next (holdOne next h m message) (suc m) messages

@@ -12,12 +12,12 @@ use Rattle.held.specs.Hanging.{sound}
 use Rattle.held.specs.declared.releasing.Released.{Released}
 use Rattle.held.specs.declared.releasing.Released.the-variants as gives
 
--- how many of n slots, from that of message m on, are full one after another
+-- how many of n slots, from that of message m on, are full one after another: Releases.run-full, run-stops
 unfoldable pub run : ℕ → (held m : ℕ) → ℕ
 run zero held m = 0
 run (suc n) held m = if full held m then suc (run n held (suc m)) else 0
 
--- the k messages held from number m on
+-- the k messages held from number m on; Releases.held-at: the one at place j is number m + j
 unfoldable pub heldFrom : ℕ → List ℕ → (m : ℕ) → List (List ℕ)
 heldFrom zero area m = []
 heldFrom (suc k) area m = heldMessage area m ∷ heldFrom k area (suc m)
@@ -28,7 +28,7 @@ pub record Fitting (area : List ℕ) (m k : ℕ) : Type 0 where
   pub long : areaSize ≤ length area
   pub room : (j : ℕ) → j < k → stated (slotAt area (slotOf (m + j))) ≤ longest
 
--- what goes out where message m is next: at most 31 messages are held
+-- what goes out where message m is next: at most 31 messages are held; Releases.released-free: N moves on to a free slot
 abbrev pub released : (held : ℕ) → List ℕ → (m : ℕ) → List (List ℕ)
 released held area m = heldFrom (run 31 held m) area m
 

@@ -22,8 +22,8 @@ fn lay(slot: u32, message: &[u8], area: &mut [u8])
 
 // The bitmap afterwards. A message that is too far ahead, or finds its slot full or too small, is thrown away.
 pub fn hold(held: u32, next: u64, number: u64, message: &[u8], area: &mut [u8]) -> u32
-    ensures { λ r. ⌜ Held (holdOne next (record { held = held; area = now (area .entry) }) number (now (message .entry))) r
-        (now (area .exit)) ⌝ }
+    ensures { λ r. ⌜ Held (holdOne next (record { held = held; area = now (area .entry) }) number (now (message .entry)))
+        r (now (area .exit)) ⌝ }
 {
     if number <= next {
         return held;

@@ -67,8 +67,8 @@ fn lay(number: u64, messages: u32, area: &[u8], out: &mut [u8], at: usize)
 
 // The blocks of the messages held from a number on, laid into the output from a place on.
 pub fn release(held: u32, number: u64, area: &[u8], out: &mut [u8], at: usize) -> Released
-    ensures { λ r. ⌜ Settled (releasing held (now (area .entry)) number at (length (now (out .entry)))) at (now (out .entry)) r
-        (now (out .exit)) ⌝ }
+    ensures { λ r. ⌜ Settled (releasing held (now (area .entry)) number at (length (now (out .entry))))
+        at (now (out .entry)) r (now (out .exit)) ⌝ }
 {
     if !is_sound(held, area) {
         return Released::Refused(refusal::BROKEN);

@@ -1,4 +1,4 @@
-// The slots, and the bitmap of those that are full.
+// The slots, and the bitmap of those that are full. specs/Slots has a picture of their bytes.
 ghost use mathlib.Core.Path.{_≡_};
 ghost use Prim.Native.Nat.{_+_, _%_, _<_};
 ghost use Rattle.held.specs.Slots.{slotOf, isFull, full, filled, freed, freedFrom};

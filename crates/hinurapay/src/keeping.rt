@@ -37,8 +37,8 @@ pub extern "C" fn hp_take(
     datagram: &[u8],
     out: &mut [u8],
 ) -> FlatTaken
-    ensures { λ r. ⌜ FlatAnswered (takeVerdict given (now (area .entry)) (now (datagram .entry)) (length (now (out .entry)))) given
-        (now (area .entry)) (now (out .entry)) r (now (area .exit)) (now (out .exit)) ⌝ }
+    ensures { λ r. ⌜ FlatAnswered (takeVerdict given (now (area .entry)) (now (datagram .entry)) (length (now (out .entry))))
+        given (now (area .entry)) (now (out .entry)) r (now (area .exit)) (now (out .exit)) ⌝ }
 {
     keeping::take(given, area, datagram, out)
 }

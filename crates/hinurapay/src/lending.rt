@@ -9,16 +9,16 @@ ghost use Rattle.flat_log.specs.Lending.{FlatEntered, addVerdict, addManyVerdic
 
 #[no_mangle]
 pub extern "C" fn hp_log_add(log: FlatLog, bytes: &mut [u8], message: &[u8]) -> FlatLogged
-    ensures { λ r. ⌜ FlatEntered (addVerdict log (now (bytes .entry)) (now (message .entry))) log (now (bytes .entry)) r (now (bytes .exit))
-        ⌝ }
+    ensures { λ r. ⌜ FlatEntered (addVerdict log (now (bytes .entry)) (now (message .entry)))
+        log (now (bytes .entry)) r (now (bytes .exit)) ⌝ }
 {
     flat_log::add(log, bytes, message)
 }
 
 #[no_mangle]
 pub extern "C" fn hp_log_add_many(log: FlatLog, bytes: &mut [u8], blocks: &[u8]) -> FlatLogged
-    ensures { λ r. ⌜ FlatEntered (addManyVerdict log (now (bytes .entry)) (now (blocks .entry))) log (now (bytes .entry)) r
-        (now (bytes .exit)) ⌝ }
+    ensures { λ r. ⌜ FlatEntered (addManyVerdict log (now (bytes .entry)) (now (blocks .entry)))
+        log (now (bytes .entry)) r (now (bytes .exit)) ⌝ }
 {
     flat_log::add_many(log, bytes, blocks)
 }
@@ -38,24 +38,24 @@ pub extern "C" fn hp_log_answer(
     count: u16,
     out: &mut [u8],
 ) -> Wrote
-    ensures { λ r. ⌜ FlatSettled (answerFlat log (now (bytes .entry)) first count (length (now (out .entry)))) (now (out .entry)) r
-        (now (out .exit)) ⌝ }
+    ensures { λ r. ⌜ FlatSettled (answerFlat log (now (bytes .entry)) first count (length (now (out .entry))))
+        (now (out .entry)) r (now (out .exit)) ⌝ }
 {
     flat_log::answer(log, bytes, first, count, out)
 }
 
 #[no_mangle]
 pub extern "C" fn hp_log_heartbeat(log: FlatLog, bytes: &[u8], out: &mut [u8]) -> Wrote
-    ensures { λ r. ⌜ FlatSettled (heartbeatFlat log (now (bytes .entry)) (length (now (out .entry)))) (now (out .entry)) r (now (out .exit))
-        ⌝ }
+    ensures { λ r. ⌜ FlatSettled (heartbeatFlat log (now (bytes .entry)) (length (now (out .entry))))
+        (now (out .entry)) r (now (out .exit)) ⌝ }
 {
     flat_log::heartbeat(log, bytes, out)
 }
 
 #[no_mangle]
 pub extern "C" fn hp_log_end_packet(log: FlatLog, bytes: &[u8], out: &mut [u8]) -> Wrote
-    ensures { λ r. ⌜ FlatSettled (endPacketFlat log (now (bytes .entry)) (length (now (out .entry)))) (now (out .entry)) r (now (out .exit))
-        ⌝ }
+    ensures { λ r. ⌜ FlatSettled (endPacketFlat log (now (bytes .entry)) (length (now (out .entry))))
+        (now (out .entry)) r (now (out .exit)) ⌝ }
 {
     flat_log::end_packet(log, bytes, out)
 }

@@ -10,8 +10,8 @@ pub extern "C" fn hp_soup_take(
     piece: &[u8],
     place: u64,
 ) -> FlatPiece
-    ensures { λ r. ⌜ FlatAnswered (takeVerdict pieces (now (buffer .entry)) (now (piece .entry)) place) pieces (now (buffer .entry))
-        (now (piece .entry)) r (now (buffer .exit)) ⌝ }
+    ensures { λ r. ⌜ FlatAnswered (takeVerdict pieces (now (buffer .entry)) (now (piece .entry)) place)
+        pieces (now (buffer .entry)) (now (piece .entry)) r (now (buffer .exit)) ⌝ }
 {
     flat_pieces::take(pieces, buffer, piece, place)
 }

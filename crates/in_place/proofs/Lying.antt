@@ -34,8 +34,8 @@ typed-so 𝓤 H A W d is = LL.lawful R.the-type R′.the-laws 𝓤 H A W .typed 
 
 module _ {M : Type 1} {𝓤 : URA M} {H : Heap 𝓤} {A : Atoms 𝓤} {K : Type 0} {W : Given 𝓤 H A} {Γ : List (Item 𝓤)} {G : Goal 𝓤 H} where
   pub opened : K → Soaks G → {κ : Lft} {q : Share} {γ : GName} (h : Record) (b o : ℕ)
-      → (Fits h → Seq K W (‵ (R.the-row .own h (R′.lowered h ∷ [])) ∷ ‵ (cellAt fullShare (R.the-row .mir) (R′.lowered h ∷ []) b o) ∷ ‵
-      (fobor κ q (Body (mem R.the-row) b o γ)) ∷ ‵ (fobs γ (R.the-row .coded .code h)) ∷ ‵ (fauth γ (R.the-row .coded .code h)) ∷ Γ) G)
+      → (Fits h → Seq K W (‵ (R.the-row .own h (R′.lowered h ∷ [])) ∷ ‵ (cellAt fullShare (R.the-row .mir) (R′.lowered h ∷ []) b o) ∷
+      ‵ (fobor κ q (Body (mem R.the-row) b o γ)) ∷ ‵ (fobs γ (R.the-row .coded .code h)) ∷ ‵ (fauth γ (R.the-row .coded .code h)) ∷ Γ) G)
       → Seq K W (‵ (fobs γ (R.the-row .coded .code h)) ∷ ‵ (fbor κ (Body (mem R.the-row) b o γ)) ∷ ‵ (flft κ q) ∷ Γ) G
   opened t z h b o k = opens t z R.the-row {h = h} b o
       (λ vs. spelt t R.the-row (Is R.the-row) (shows 𝓤 H A R.the-row) (λ d. R′.lowered d ∷ []) (R′.lowers .val-is) fullShare h vs b o $
@@ -44,7 +44,7 @@ module _ {M : Type 1} {𝓤 : URA M} {H : Heap 𝓤} {A : Atoms 𝓤} {K : Type 
   -- a record is plain: what it owns is made anew
   pub closed : K → Soaks G → {κ : Lft} {q : Share} {γ : GName} {u v : Gv} (d : Record) → Fits d → (b o : ℕ)
       → Step K W (‵ (fobs γ (R.the-row .coded .code d)) ∷ ‵ (fbor κ (Body (mem R.the-row) b o γ)) ∷ ‵ (flft κ q) ∷ Γ) G
-      (‵ (cellAt fullShare (R.the-row .mir) (R′.lowered d ∷ []) b o) ∷ ‵ (fobor κ q (Body (mem R.the-row) b o γ)) ∷ ‵ (fobs γ u) ∷ ‵
-      (fauth γ v) ∷ Γ) G
+      (‵ (cellAt fullShare (R.the-row .mir) (R′.lowered d ∷ []) b o) ∷ ‵ (fobor κ q (Body (mem R.the-row) b o γ)) ∷ ‵ (fobs γ u) ∷
+      ‵ (fauth γ v) ∷ Γ) G
   closed t z d is b o = step (λ s. owned t R.the-row (Is R.the-row) (LL.makes R.the-type R′.the-plain 𝓤 H A) d _ is $ move t (1 ∷ 0 ∷ [])
       $ closes t z R.the-row d (R′.lowered d ∷ []) b o $ s)

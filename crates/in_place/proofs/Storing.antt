@@ -1,7 +1,7 @@
 -- What lies there after a step is read off the answer: what was taken is stored, and a refusal leaves the record and every byte.
 -- Assumes nothing.
 use Prim.Native.Nat.{ℕ}
-use mathlib.Core.Path.{_≡_, refl}
+use mathlib.Core.Path.{_≡_}
 use mathlib.Core.List.{List}
 use Rattle.wire.specs.Checks.{Verdict, refused, taken}
 use Rattle.wire.specs.declared.kinds.Sequence.{Sequence}

@@ -95,12 +95,12 @@ module _ {M : Type 1} (𝓤 : URA M) (H : Heap 𝓤) (A : Atoms 𝓤) where
         (subst (λ (Δ : List (Item 𝓤)). ent 𝓤 (⋆ 𝓤 H A (before n Γ) ∗ ⋆ 𝓤 H A Δ) (release 𝓤 H E P)) e
         (freed E us [] (⋆ 𝓤 H A (before n Γ)) P (via 𝓤 (⋆ 𝓤 H A (before n Γ)) (fst∗ 𝓤 (⋆ 𝓤 H A (before n Γ)) (emp 𝓤)) h)))
 
-module _ {M : Type 1} {𝓤 : URA M} {H : Heap 𝓤} {A : Atoms 𝓤} {K : Type 0} {W : Given 𝓤 H A} {Γ : List (Item 𝓤)} {P : SProp 𝓤} {E : Env 𝓤 H}
-  where
-    -- after the first n entries stand the locals, which hold us: they are freed
-    pub leaves : K → (n : ℕ) (us : List (Option Val)) → lying 𝓤 H A E us [] ≡ after 𝓤 H A n Γ
-        → Step K W (before 𝓤 H A n Γ) (prop P) Γ (frees E (prop P))
-    leaves t n us e = step (λ s. record { prf = left 𝓤 H A W E us n Γ P e (s .prf) })
+module _ {M : Type 1} {𝓤 : URA M} {H : Heap 𝓤} {A : Atoms 𝓤} {K : Type 0} {W : Given 𝓤 H A} {Γ : List (Item 𝓤)} {P : SProp 𝓤}
+    {E : Env 𝓤 H} where
+  -- after the first n entries stand the locals, which hold us: they are freed
+  pub leaves : K → (n : ℕ) (us : List (Option Val)) → lying 𝓤 H A E us [] ≡ after 𝓤 H A n Γ
+      → Step K W (before 𝓤 H A n Γ) (prop P) Γ (frees E (prop P))
+  leaves t n us e = step (λ s. record { prf = left 𝓤 H A W E us n Γ P e (s .prf) })
 
 module _ {M : Type 1} {𝓤 : URA M} {H : Heap 𝓤} {A : Atoms 𝓤} {K : Type 0} {W : Given 𝓤 H A} {Γ : List (Item 𝓤)} {C : Calls 𝓤 H}
     {Λ : Loops 𝓤 H} {E : Env 𝓤 H} {q : Post 𝓤 H} where

@@ -1,4 +1,5 @@
--- The record where it lies, once a step was tried on it: the one afterwards if the step was taken, else the one that lay there.
+-- The record where it lies, once a step was tried on it: the one afterwards if the step was taken, else the one that lay there; Storing
+-- reads that off the answer alone.
 -- Assumes nothing.
 use Prim.Native.Nat.{ℕ}
 use mathlib.Core.Path.{_≡_}

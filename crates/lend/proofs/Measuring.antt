@@ -42,16 +42,16 @@ holds ms room j = j atMost length ms && length (frames (take j ms)) atMost room
 
 -- the first of them goes in, or it doesn't
 module _ (m : List ℕ) (os : List (List ℕ)) (room : ℕ) where
-  pub first-in : (c : ℕ) → 2 + length m ≤ room → greatest (holds (m ∷ os) room) (suc c) ≡ suc
-      (greatest (holds os (room - (2 + length m))) c)
+  pub first-in : (c : ℕ) → 2 + length m ≤ room
+      → greatest (holds (m ∷ os) room) (suc c) ≡ suc (greatest (holds os (room - (2 + length m))) c)
   unfolding frames
   first-in c h = greatest-moved (holds (m ∷ os) room) (holds os (room - (2 + length m))) c same none where
     same : (j : ℕ) → holds (m ∷ os) room (suc j) ≡ holds os (room - (2 + length m)) j
     same j =
         let l = length-frames m (take j os) in
         let a = leb-same (suc j) (suc (length os)) j (length os) (λ u. omega arith) (λ u. omega arith) in
-        let b = leb-same (length (frames (m ∷ take j os))) room (length (frames (take j os))) (room - (2 + length m)) (λ u. omega arith)
-        (λ u. omega arith) in
+        let rest = length (frames (take j os)) in
+        let b = leb-same (length (frames (m ∷ take j os))) room rest (room - (2 + length m)) (λ u. omega arith) (λ u. omega arith) in
         rw (a, b)
 
     none : holds os (room - (2 + length m)) 0 ≡ true
@@ -83,8 +83,8 @@ ran-more k p m os j =
     cc (count, end)
 
 -- what is left of the room after a block of w bytes
-room-left : (at p w : ℕ) → at ≤ p → p + 2 + w - at ≤ 1465 → (2 + w ≤ 1465 - (p - at))
-    × (1465 - (p - at) - (2 + w) ≡ 1465 - (p + 2 + w - at))
+room-left : (at p w : ℕ) → at ≤ p → p + 2 + w - at ≤ 1465
+    → (2 + w ≤ 1465 - (p - at)) × (1465 - (p - at) - (2 + w) ≡ 1465 - (p + 2 + w - at))
 room-left at p w h l = (omega arith, omega arith)
 
 room-gone : (at p w : ℕ) → at ≤ p → p - at ≤ 1465 → 1465 < p + 2 + w - at → 1465 - (p - at) < 2 + w
@@ -95,6 +95,7 @@ module _ (s : List ℕ) (at : ℕ) where
   abbrev pub mostFrom : ℕ → ℕ → ℕ → List (List ℕ) → Run
   mostFrom k p c ms = ranFrom k p (greatest (holds ms (1465 - (p - at))) c) ms
 
+  -- by the messages that are left: none, or a first one, which goes in or doesn't
   pub ran : (c n p k : ℕ) (ms : List (List ℕ)) → at ≤ p → p - at ≤ 1465 → cut n (drop p s) ≡ whole ms → run s at p k c ≡ mostFrom k p c ms
   ran zero n p k ms h r e = rw (greatest-zero (holds ms (1465 - (p - at)))) (run-done s at p k ∙ sym (ran-none k p ms))
   ran (suc c) zero p k ms h r e =

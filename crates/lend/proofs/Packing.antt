@@ -76,22 +76,25 @@ module _ (l : Log) (s : List ℕ) (f c : ℕ) (h : hangs l s ≡ true) (i : 0 < 
   sent-there room b w =
       let hung = hanging l s h in
       let m = most ms f i there c in
-      let bytes : drop begins held ≡ frames others = skipped-bytes (f - 1) (l .count) held 0 ms (bytes-take (l .used) s b) (omega arith)
-      (hung .cuts) (omega arith) in
-      let first : take size (frames others) ≡ frames those = rw (frames-split number others)
-      (take-at (frames those) (frames (drop number others)) size refl) in
-      let after : length held - begins ≡ size + length (frames (drop number others)) = sym (length-drop begins held)
-      ∙ ap length (bytes ∙ frames-split number others) ∙ length-append (frames those) (frames (drop number others)) in
+      let bytes : drop begins held ≡ frames others =
+      skipped-bytes (f - 1) (l .count) held 0 ms (bytes-take (l .used) s b) (omega arith) (hung .cuts) (omega arith) in
+      let first : take size (frames others) ≡ frames those =
+      rw (frames-split number others) (take-at (frames those) (frames (drop number others)) size refl) in
+      let after : length held - begins ≡ size + length (frames (drop number others)) =
+      sym (length-drop begins held)
+      ∙ ap length (bytes ∙ frames-split number others)
+      ∙ length-append (frames those) (frames (drop number others)) in
       let fit = from-fits ms (few-in l s h) f c (bytes-in l s b h) i there in
       record {
         start = omega arith;
         stop = omega (arith, skip .inside, after);
-        reply = rw (add-sub-cancel-left begins size, bytes, first) (ap (λ (n : ℕ). messagesReply f n (frames those) room) (sym (m .many))
+        reply = rw (add-sub-cancel-left begins size, bytes, first)
+            (ap (λ (n : ℕ). messagesReply f n (frames those) room) (sym (m .many))
             ∙ lawful-fit (messages f those) room fit (omega (arith, m .size)));
       }
 
-  pub sent : (room p : ℕ) (r : Run) → Bytes s → limit ≤ room → placeOf (placeAfter (f - 1) held 0) ≡ place.At p → r ≡ run held p p 0 c
-      → Sent room p r
+  pub sent : (room p : ℕ) (r : Run) → Bytes s → limit ≤ room
+      → placeOf (placeAfter (f - 1) held 0) ≡ place.At p → r ≡ run held p p 0 c → Sent room p r
   sent room p r b w e g =
       let q : place.At begins ≡ place.At p = rw (skip .place) at e in
       let at : p ≡ begins = cc q in

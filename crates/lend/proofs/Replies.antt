@@ -31,8 +31,8 @@ module _ (l : Log) (s : List ℕ) (h : hangs l s ≡ true) where
   writes-beat : (room : ℕ) → messagesReply (l .count + 1) 0 [] room ≡ within room (write (heartbeatOf ms))
   unfolding frames
   writes-beat room =
-      ap (λ (n : ℕ). messagesReply (n + 1) 0 [] room) (sym (count-is l s h)) ∙ lawful-reply (heartbeatOf ms) room
-      (beat-fits ms (few-in l s h))
+      ap (λ (n : ℕ). messagesReply (n + 1) 0 [] room) (sym (count-is l s h))
+      ∙ lawful-reply (heartbeatOf ms) room (beat-fits ms (few-in l s h))
 
   writes-end : (room : ℕ) → ufo.endReply (l .count) room ≡ within room (write (endOf ms))
   writes-end room =

@@ -3,7 +3,7 @@
 use Prim.Native.Nat.{ℕ}
 use mathlib.Core.List.{List}
 use denote.Ref.{now}
-use Rattle.wire.proofs.Outcomes.{Answered, Determined, same-answer, same-both, same-reply}
+use Rattle.wire.proofs.Outcomes.{Determined, same-reply}
 use Rattle.lend.proofs.answer.Kinds as answer
 use Rattle.lend.proofs.answer.Reads as answer-reads
 use Rattle.lend.proofs.heartbeat.Kinds as heartbeat

@@ -13,7 +13,7 @@ use Rattle.log.specs.Log.{messagesIn, hangs}
 use Rattle.log.specs.declared.Log.{Log}
 use Rattle.lend.specs.declared.Run.{Run}
 
--- the greatest k up to c that passes the test, and 0 where none does
+-- the greatest k up to c that passes the test, and 0 where none does; Greatest shows that it is
 unfoldable pub greatest : (ℕ → Bool) → ℕ → ℕ
 greatest p zero = 0
 greatest p (suc c) = if p (suc c) then suc c else greatest p c
@@ -37,7 +37,7 @@ heartbeatOf ms = messages (length ms + 1) []
 abbrev pub endOf : List (List ℕ) → Packet
 endOf ms = end (length ms)
 
--- the answer to a request for c messages from number f on
+-- the answer to a request for c messages from number f on; Answering shows that it carries one message at least, and as many as go in
 unfoldable pub answerTo : Bool → List (List ℕ) → ℕ → ℕ → Packet
 answerTo ended ms f c =
     if f atMost length ms then packed ms f c else
@@ -53,7 +53,7 @@ answerable l s f c room =
     ∷ (limit atMost room else 9)
     ∷ []
 
--- what is laid into lent output of so much room
+-- what is laid into lent output of so much room; Given shows that it is a lawful packet, which the reader takes
 unfoldable pub answerReply : Log → List ℕ → ℕ → ℕ → ℕ → Reply
 answerReply l s f c room =
     checked (answerable l s f c room) (taken (write (answerTo (l .ended) (messagesIn l s) f c)))
@@ -65,8 +65,8 @@ unfoldable pub endPacketReply : Log → List ℕ → ℕ → Reply
 endPacketReply l s room =
     checked ((hangs l s else 10) ∷ (l .ended else 12) ∷ []) (within room (write (endOf (messagesIn l s))))
 
--- the pass that counts them: after k blocks of s, which ended at p, c more at most, while all
--- lie within what the header leaves of a packet, from the place `at` on
+-- the pass that counts them: after k blocks of s, which ended at p, c more at most, while all lie within what the header leaves of a
+-- packet, from the place `at` on; Measuring shows that it finds the greatest number of them
 unfoldable pub run : List ℕ → ℕ → ℕ → ℕ → ℕ → Run
 run s at p k zero = record { count = k; end = p }
 run s at p k (suc c) =

@@ -53,8 +53,8 @@ fn measure(s: &[u8], at: usize, count: u16) -> Run
 // Sends messages that the log has, from a number on: as many as one packet can carry.
 fn send(log: Log, bytes: &[u8], first: Sequence, count: u16, out: &mut [u8]) -> Written
     requires { ⌜ (hangs log (now bytes) ≡ true) × (0 < first .0) × (first .0 ≤ log .count) × (limit ≤ length (now out)) ⌝ }
-    ensures { λ r. ⌜ Settled (taken (write (packed (messagesIn log (now (bytes .entry))) (first .0) count))) (now (out .entry)) r
-        (now (out .exit)) ⌝ }
+    ensures { λ r. ⌜ Settled (taken (write (packed (messagesIn log (now (bytes .entry))) (first .0) count)))
+        (now (out .entry)) r (now (out .exit)) ⌝ }
 {
     let used = log.used;
     let held = &bytes[..used];
@@ -71,8 +71,8 @@ fn send(log: Log, bytes: &[u8], first: Sequence, count: u16, out: &mut [u8]) -> 
 
 // Answers a request for `count` messages from number `first` on.
 pub fn answer(log: Log, bytes: &[u8], first: Sequence, count: u16, out: &mut [u8]) -> Written
-    ensures { λ r. ⌜ Settled (answerReply log (now (bytes .entry)) (first .0) count (length (now (out .entry)))) (now (out .entry)) r
-        (now (out .exit)) ⌝ }
+    ensures { λ r. ⌜ Settled (answerReply log (now (bytes .entry)) (first .0) count (length (now (out .entry))))
+        (now (out .entry)) r (now (out .exit)) ⌝ }
 {
     if !log::hangs_together(log, bytes) {
         return Written::Refused(refusal::BROKEN);
@@ -99,7 +99,8 @@ pub fn answer(log: Log, bytes: &[u8], first: Sequence, count: u16, out: &mut [u8
 }
 
 pub fn heartbeat(log: Log, bytes: &[u8], out: &mut [u8]) -> Written
-    ensures { λ r. ⌜ Settled (heartbeatReply log (now (bytes .entry)) (length (now (out .entry)))) (now (out .entry)) r (now (out .exit)) ⌝ }
+    ensures { λ r. ⌜ Settled (heartbeatReply log (now (bytes .entry)) (length (now (out .entry))))
+        (now (out .entry)) r (now (out .exit)) ⌝ }
 {
     if !log::hangs_together(log, bytes) {
         return Written::Refused(refusal::BROKEN);
@@ -109,7 +110,8 @@ pub fn heartbeat(log: Log, bytes: &[u8], out: &mut [u8]) -> Written
 }
 
 pub fn end_packet(log: Log, bytes: &[u8], out: &mut [u8]) -> Written
-    ensures { λ r. ⌜ Settled (endPacketReply log (now (bytes .entry)) (length (now (out .entry)))) (now (out .entry)) r (now (out .exit)) ⌝ }
+    ensures { λ r. ⌜ Settled (endPacketReply log (now (bytes .entry)) (length (now (out .entry))))
+        (now (out .entry)) r (now (out .exit)) ⌝ }
 {
     if !log::hangs_together(log, bytes) {
         return Written::Refused(refusal::BROKEN);

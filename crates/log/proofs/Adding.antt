@@ -113,8 +113,8 @@ module _ (l : Log) (s : List ℕ) (k : Kept) where
       let is : extended l s ms ≡ k = cc (p .1) in
       (f, sym is, rw is at (grown l s ms f))
 
-  pub added-many : (f : List ℕ) → addingMany l s f ≡ taken k → let ms = messagesOf (toTheEnd f) in Fits l s ms × (k ≡ extended l s ms)
-      × Grown l s ms k
+  pub added-many : (f : List ℕ) → addingMany l s f ≡ taken k → let ms = messagesOf (toTheEnd f) in
+      Fits l s ms × (k ≡ extended l s ms) × Grown l s ms k
   unfolding addingMany
   added-many f e =
       let ms = messagesOf (toTheEnd f) in
@@ -123,8 +123,8 @@ module _ (l : Log) (s : List ℕ) (k : Kept) where
       let is : extended l s ms ≡ k = cc (p .1) in
       (f, sym is, rw is at (grown l s ms f))
 
-  pub declared : declaring l s ≡ taken k → (hangs (k .log) (k .bytes) ≡ true) × (messagesIn (k .log) (k .bytes) ≡ messagesIn l s)
-      × (k .log .ended ≡ true) × (k .bytes ≡ s)
+  pub declared : declaring l s ≡ taken k
+      → (hangs (k .log) (k .bytes) ≡ true) × (messagesIn (k .log) (k .bytes) ≡ messagesIn l s) × (k .log .ended ≡ true) × (k .bytes ≡ s)
   unfolding declaring hangs
   declared e =
       let after : Kept = record { log = record { count = l .count; used = l .used; ended = true }; bytes = s } in

@@ -99,10 +99,13 @@ module _ (l : Log) (s m : List ℕ) where
           counts-one = let b = hanging l s h .count in omega arith
 
           pub one-crowded : length s - l .used < 2 + length m → adding l s m ≡ refused 9
-          one-crowded r = let b = hanging l s h .mark in let z = length-one m in one-open ∙ no-room l s _ (m ∷ []) (small-one m k)
-              counts-one (omega arith)
+          one-crowded r =
+              let b = hanging l s h .mark in
+              let z = length-one m in
+              one-open ∙ no-room l s _ (m ∷ []) (small-one m k) counts-one (omega arith)
 
-          pub one-entered : 2 + length m ≤ length s - l .used → (mid left : List ℕ) → mid ≡ sets s (l .used) (bytesOf 2 (length m))
+          pub one-entered : 2 + length m ≤ length s - l .used → (mid left : List ℕ)
+              → mid ≡ sets s (l .used) (bytesOf 2 (length m))
               → left ≡ sets mid (l .used + 2) (take (length m) (drop 0 m))
               → Entered (adding l s m) s (After (record { count = l .count + 1; used = l .used + 2 + length m; ended = l .ended })) left
           one-entered r mid left a b =
@@ -158,12 +161,12 @@ module _ (l : Log) (s b : List ℕ) where
             let m = hanging l s h .mark in
             let room : l .used + length b ≤ length s = omega arith in
             enters (addingMany l s b) s (extended l s many) _ left
-            (takes-many l s many (record { hung = h; goes-on = e; sizes = t .sizes; count = counts-many; room = rw are-blocks room }) b
-            (t .cuts))
+            (takes-many l s many
+            (record { hung = h; goes-on = e; sizes = t .sizes; count = counts-many; room = rw are-blocks room }) b (t .cuts))
             (rw (t .number, are-blocks))
             (rw (are-blocks, a, take-length b) (stored-at s b (l .used) room))
 
 -- there is room to copy them to the mark
-pub room-for : (l : Log) (s b : List ℕ) → Hangs l s → length b ≤ length s - l .used → (l .used + length b ≤ length s)
-    × (0 + length b ≤ length b)
+pub room-for : (l : Log) (s b : List ℕ) → Hangs l s → length b ≤ length s - l .used
+    → (l .used + length b ≤ length s) × (0 + length b ≤ length b)
 room-for l s b h r = let m = h .mark in (omega arith, omega arith)

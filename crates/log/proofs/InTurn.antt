@@ -1,4 +1,4 @@
--- Adding many messages at once leaves the log and the bytes that adding each in turn leaves.
+-- Adding many messages at once leaves the log and the bytes that adding each in turn leaves: the first is added, and the others behind it.
 -- Assumes nothing.
 use Prim.Native.Nat.{ℕ, _+_}
 use mathlib.Core.List.{List, [], _∷_, _++_, append-assoc}
@@ -85,8 +85,8 @@ module _ (l : Log) (s m : List ℕ) (ms : List (List ℕ)) where
       let count : l .count + 1 + length ms ≡ l .count + length (m ∷ ms) = omega arith in
       let past : drop (u + length b + length o) (one .bytes) ≡ drop (u + length b + length o) s =
       rw (← drop-drop (length o) (u + length b) (one .bytes), after s b u (f .room), drop-drop (length o) (u + length b) s) in
-      let bytes : take (u + length b) (one .bytes) ++ (o ++ drop (u + length b + length o) (one .bytes)) ≡ take u s
-      ++ (frames (m ∷ ms) ++ drop w s) =
+      let bytes : take (u + length b) (one .bytes) ++ (o ++ drop (u + length b + length o) (one .bytes))
+      ≡ take u s ++ (frames (m ∷ ms) ++ drop w s) =
       rw (past, mark, up-to s b u (f .room), append-assoc (take u s) b (o ++ drop w s), ← append-assoc b o (drop w s), ← frames-one) in
       cc (count, mark, bytes)
 
@@ -137,5 +137,6 @@ pub in-turn-many : (l : Log) (s m : List ℕ) (ms : List (List ℕ)) (k : Kept) 
     → addingMany l s (frames (m ∷ ms)) ≡ taken k
 in-turn-many l s m ms k e =
     let f = in-turn-fits ms m l s k e in
-    takes-many l s (m ∷ ms) f (frames (m ∷ ms)) (all-frames (m ∷ ms) (small-short (m ∷ ms) (f .sizes))) ∙ sym (in-turn-taken (m ∷ ms) l s f)
+    takes-many l s (m ∷ ms) f (frames (m ∷ ms)) (all-frames (m ∷ ms) (small-short (m ∷ ms) (f .sizes)))
+    ∙ sym (in-turn-taken (m ∷ ms) l s f)
     ∙ e

@@ -63,8 +63,9 @@ module _ (s : List ℕ) (p : ℕ) where
     pub sound-long : (n : ℕ) → 1463 < stated (drop p s) → sound (cut (suc n) (drop p s)) ≡ false
     sound-long n l = sound-at n ∙ rw (lt-leb (stated (drop p s)) 1463 l)
 
-    pub tally-step : (n k : ℕ) (b : Bool) → tallyFrom k b (cutAll (suc n) (drop p s)) ≡ tallyFrom (k + 1)
-        (b && stated (drop p s) atMost 1463) (cutAll n (drop (endAt s p) s))
+    pub tally-step : (n k : ℕ) (b : Bool)
+        → tallyFrom k b (cutAll (suc n) (drop p s))
+        ≡ tallyFrom (k + 1) (b && stated (drop p s) atMost 1463) (cutAll n (drop (endAt s p) s))
     unfolding cutAll
     tally-step n k b =
         let some : (length (drop p s) ≡ 0) → ⊥ = λ e. omega (arith, rw length-drop at e) in
@@ -97,8 +98,8 @@ module _ (s : List ℕ) (p n : ℕ) (more : 0 < n) where
   pub long-turn : (f l t : ℕ) → blockAt s p ≡ block.At f l t → 1463 < l → sound (cut n (drop p s)) ≡ false
   long-turn f l t e h = let b = found s p f l t e in rw one-more (sound-long s p (b .2) (n - 1) (rw (b .1) at h))
 
-  pub good-turn : (f l t : ℕ) → blockAt s p ≡ block.At f l t → l ≤ 1463 → (t ≤ length s)
-      × (sound (cut n (drop p s)) ≡ sound (cut (n - 1) (drop t s)))
+  pub good-turn : (f l t : ℕ) → blockAt s p ≡ block.At f l t → l ≤ 1463
+      → (t ≤ length s) × (sound (cut n (drop p s)) ≡ sound (cut (n - 1) (drop t s)))
   good-turn f l t e h =
       let b = found s p f l t e in
       (rw (b .0) (b .2), rw (b .0) (ap (λ (k : ℕ). sound (cut k (drop p s))) one-more ∙ sound-step s p (b .2) (n - 1) (rw (b .1) at h)))
@@ -114,8 +115,8 @@ pub record Turned (s : List ℕ) (p k : ℕ) (b : Bool) (l t : ℕ) : Type 0 whe
   pub inside : t ≤ length s
   pub counts : k + 1 ≤ t
   pub less : length s - t < length s - p
-  pub same : tallyFrom k b (cutAll (suc (length s - k)) (drop p s)) ≡ tallyFrom (k + 1) (b && l atMost 1463)
-      (cutAll (suc (length s - (k + 1))) (drop t s))
+  pub same : tallyFrom k b (cutAll (suc (length s - k)) (drop p s))
+      ≡ tallyFrom (k + 1) (b && l atMost 1463) (cutAll (suc (length s - (k + 1))) (drop t s))
 
 pub turned : (s : List ℕ) (p k : ℕ) (b : Bool) → k ≤ p → (f l t : ℕ) → blockAt s p ≡ block.At f l t → Turned s p k b l t
 turned s p k b h f l t e =

@@ -3,7 +3,7 @@
 use Prim.Native.Nat.{ℕ}
 use mathlib.Core.List.{List}
 use denote.Ref.{now}
-use Rattle.wire.proofs.Outcomes.{Answered, Determined, same-answer, same-both, same-reply}
+use Rattle.wire.proofs.Outcomes.{Answered, Determined, same-answer, same-both}
 use Rattle.log.proofs.hangs_together.Kinds as hangs-together
 use Rattle.log.proofs.hangs_together.Reads as hangs-together-reads
 use Rattle.log.proofs.add.Kinds as add

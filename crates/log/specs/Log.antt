@@ -33,7 +33,7 @@ blocksIn l s = cut (l .count) (take (l .used) s)
 abbrev pub messagesIn : Log → List ℕ → List (List ℕ)
 messagesIn l s = messagesOf (blocksIn l s)
 
--- at most 2^32-2 blocks, which end exactly at the mark inside the slice, and none is too long
+-- at most 2^32-2 blocks, which end exactly at the mark inside the slice, and none is too long; Adding shows that a log stays so
 unfoldable pub hangs : Log → List ℕ → Bool
 hangs l s = l .count atMost 2 ^ 32 - 2 && l .used atMost length s && sound (blocksIn l s)
 
@@ -61,7 +61,7 @@ fitting l s ms =
     ∷ (l .used + length (frames ms) atMost length s else 9)
     ∷ []
 
--- adding a message
+-- adding a message; Adding shows that it follows those that were there, Order in which order it is refused
 unfoldable pub adding : Log → List ℕ → List ℕ → Verdict Kept
 adding l s m = checked (growing l s ++ fitting l s (m ∷ [])) (taken (extended l s (m ∷ [])))
 
@@ -72,11 +72,11 @@ cutAll (suc n) s =
     if length s is 0 then whole [] else
     if there s then before (first s) (cutAll n (rest s)) else torn
 
--- blocks to the very end, however many: there are no more of them than bytes
+-- blocks to the very end, however many: there are no more of them than bytes; Many shows that framed messages are cut so
 abbrev pub toTheEnd : List ℕ → Cut
 toTheEnd s = cutAll (suc (length s)) s
 
--- adding the messages whose blocks are given, all of them or none
+-- adding the messages whose blocks are given, all of them or none; InTurn shows that it is adding each in turn
 unfoldable pub addingMany : Log → List ℕ → List ℕ → Verdict Kept
 addingMany l s framed =
     let ms = messagesOf (toTheEnd framed) in

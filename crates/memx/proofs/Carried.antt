@@ -8,7 +8,7 @@ use borrow.Author.Tests.{leb-true}
 use lib.ListN.{length, drop}
 use Rattle.wire.specs.Fields.{Bytes}
 use Rattle.wire.specs.Checks.{_is_, taken, Passed}
-use Rattle.wire.proofs.Tests.{by-test, impossible, nonzero}
+use Rattle.wire.proofs.Tests.{by-test, impossible}
 use Rattle.wire.proofs.Width.{bytes-drop}
 use Rattle.blocks.specs.Blocks.{frames, whole, cut, messagesOf}
 use Rattle.blocks.proofs.Cutting.{frames-cut}
@@ -19,8 +19,8 @@ use Rattle.memx.proofs.Header.{length-extra}
 use Rattle.memx.proofs.Taken.{ByType, as-news, as-messages, took}
 
 -- messages are no news
-no-news : {C : Type 0} (kind a b session first : ℕ) (c extra : List ℕ) (ms : List (List ℕ)) → messages session first extra ms ≡ news kind a
-    b c → C
+no-news : {C : Type 0} (kind a b session first : ℕ) (c extra : List ℕ) (ms : List (List ℕ))
+    → messages session first extra ms ≡ news kind a b c → C
 no-news kind a b session first c extra ms e =
     by-test (kind is 0)
     (λ q. let f : messages session first extra ms ≡ heartbeat a b c = rw q at e in impossible cc)
@@ -50,9 +50,6 @@ module _ (d : List ℕ) (session first : ℕ) (extra : List ℕ) (ms : List (Lis
 
   pub carried-cut : cut (length ms) (drop (blocksAt d) d) ≡ whole ms
   carried-cut = rw count (parts .2)
-
-  pub carried-some : 1 ≤ length ms
-  carried-some = rw count (nonzero (countIn d) (parts .0 .1 .1 .1 .0))
 
   pub carried-frames : Bytes d → drop (blocksAt d) d ≡ frames ms
   carried-frames b = sym (frames-cut (length ms) (drop (blocksAt d) d) ms (bytes-drop (blocksAt d) d b) carried-cut .0)

@@ -36,16 +36,14 @@ news-read kind session highest extra k fit =
     let few = fit .extra .few in
     rw (
       news-verdict kind session highest extra [] (fit .session) (omega arith) (ne-eqb kind 2 (λ e. omega arith)),
-      le-leb
-          (headerSize + length extra + 0) limit (omega arith),
+      le-leb (headerSize + length extra + 0) limit (omega arith),
       le-leb kind 2 (omega arith),
-      le-leb (headerSize + length extra) 255
-          (omega arith),
+      le-leb (headerSize + length extra) 255 (omega arith),
       le-leb highest _ (fit .bound),
     )
 
-news-written : (kind session highest : ℕ) (extra : List ℕ) → kind ≤ 1 → write (news kind session highest extra) ≡ headed kind session
-    highest extra []
+news-written : (kind session highest : ℕ) (extra : List ℕ) → kind ≤ 1
+    → write (news kind session highest extra) ≡ headed kind session highest extra []
 unfolding write
 news-written kind session highest extra k =
     of-two (λ n. write (news n session highest extra) ≡ headed n session highest extra []) refl refl kind k
@@ -65,14 +63,12 @@ messages-read session first extra ms fit =
     let extras = fit .extra .few in
     rw (
       laid-verdict session first (length ms) extra (frames ms) (fit .session) (omega arith) (omega arith),
-      le-leb
-          (headerSize + length extra + (2 + length (frames ms))) limit (omega arith),
+      le-leb (headerSize + length extra + (2 + length (frames ms))) limit (omega arith),
       le-leb (headerSize + length extra) 255 (omega arith),
       cut-frames ms (short-frames ms (omega arith)),
       ne-eqb first 0 (λ e. omega arith),
       ne-eqb (length ms) 0 (λ e. omega arith),
-      le-leb
-          (first + length ms) _ (fit .bound),
+      le-leb (first + length ms) _ (fit .bound),
     )
 
 pub written-is-read : (p : Packet) → Fit p → read (write p) ≡ taken p
@@ -96,12 +92,14 @@ module _ (d : List ℕ) (b : Bytes d) where
       let size : length d ≡ headerIn d = eqb-true _ _ (c .0) in
       let none : drop (headerIn d) d ≡ [] = drop-of-length-le d {i = headerIn d} (omega arith) in
       let fit : FitNews (sessionIn d) (numberIn d) (extraIn d) =
-      record { session = be-lt 8 (drop 2 d) (bytes-drop 2 d b); bound = leb-true _ _ (c .1 .0); extra = extra-fits h m (omega arith) }
-      in
+      record {
+        session = be-lt 8 (drop 2 d) (bytes-drop 2 d b);
+        bound = leb-true _ _ (c .1 .0);
+        extra = extra-fits h m (omega arith);
+      } in
       let again = header-again d b h (omega arith) in (
         fit-news (kindIn d) (sessionIn d) (numberIn d) (extraIn d) fit,
-        news-written (kindIn d) (sessionIn d) (numberIn d) (extraIn d) k
-            ∙ rw none at again,
+        news-written (kindIn d) (sessionIn d) (numberIn d) (extraIn d) k ∙ rw none at again,
       )
 
   messages-again : kindIn d ≡ 2 → headerSize ≤ headerIn d → headerIn d ≤ 255 → length d ≤ limit → Passed (messagesChecks d)

@@ -47,6 +47,9 @@ module _ (kind session number : ℕ) (extra follows : List ℕ) where
   unfolding headed bytesOf
   follows-headed = rw (← drop-drop (length extra) headerSize packet) (drop-append-seam extra follows)
 
+  pub behind-headed : (n : ℕ) → drop (headerIn packet + n) packet ≡ drop n follows
+  behind-headed n = rw (← drop-drop n (headerIn packet) packet, follows-headed)
+
 -- the count and the blocks behind it
 module _ (session first count : ℕ) (extra blocks : List ℕ) where
   abbrev messages : List ℕ
@@ -61,26 +64,25 @@ module _ (session first count : ℕ) (extra blocks : List ℕ) where
 
   pub blocks-laid : drop (blocksAt messages) messages ≡ blocks
   unfolding bytesOf
-  blocks-laid = rw (← drop-drop 2 (headerIn messages) messages, follows-headed)
+  blocks-laid = rw (behind-headed 2 session first extra (bytesOf 2 count ++ blocks) 2)
 
 -- the header stored field by field
-pub header-put : (out : List ℕ) (kind session number : ℕ) (extra : List ℕ)
-    → sets (sets (sets (set (set out 0 kind) 1 (headerSize + length extra)) 2 (bytesOf 8 session)) 10 (bytesOf 8 number)) 18 extra ≡ sets
-    out 0 (headed kind session number extra [])
+pub header-put : (out : List ℕ) (kind session number : ℕ) (extra : List ℕ) → let own = set (set out 0 kind) 1 (headerSize + length extra) in
+    sets (sets (sets own 2 (bytesOf 8 session)) 10 (bytesOf 8 number)) 18 extra ≡ sets out 0 (headed kind session number extra [])
 unfolding headed bytesOf
 header-put out kind session number extra = rw append-nil
 
 -- a header alone, and then what follows it
-headed-before : (kind session number : ℕ) (extra follows : List ℕ) → headed kind session number extra [] ++ follows ≡ headed kind session
-    number extra follows
+headed-before : (kind session number : ℕ) (extra follows : List ℕ)
+    → headed kind session number extra [] ++ follows ≡ headed kind session number extra follows
 unfolding headed bytesOf
 headed-before kind session number extra follows =
     ap (λ (x : List ℕ). kind ∷ (headerSize + length extra) ∷ (bytesOf 8 session ++ (bytesOf 8 number ++ (x ++ follows)))) (append-nil extra)
 
 -- header, count and blocks stored one after the other
 pub laid-put : (out : List ℕ) (session first count : ℕ) (extra blocks : List ℕ) → let n = headerSize + length extra in
-    sets (sets (sets out 0 (headed 2 session first extra [])) n (bytesOf 2 count)) (n + 2) blocks ≡ sets out 0
-    (laid session first count extra blocks)
+    sets (sets (sets out 0 (headed 2 session first extra [])) n (bytesOf 2 count)) (n + 2) blocks
+    ≡ sets out 0 (laid session first count extra blocks)
 laid-put out session first count extra blocks =
     let header = headed 2 session first extra [] in
     let field = bytesOf 2 count in
@@ -96,8 +98,8 @@ pub length-extra : (d : List ℕ) → headerSize ≤ headerIn d → headerIn d �
 length-extra d h l = length-part headerSize (headerIn d - headerSize) d (omega arith)
 
 -- a header that says its own size, laid out again before what follows it
-pub header-again : (d : List ℕ) → Bytes d → headerSize ≤ headerIn d → headerIn d ≤ length d → headed (kindIn d) (sessionIn d) (numberIn d)
-    (extraIn d) (drop (headerIn d) d) ≡ d
+pub header-again : (d : List ℕ) → Bytes d → headerSize ≤ headerIn d → headerIn d ≤ length d
+    → headed (kindIn d) (sessionIn d) (numberIn d) (extraIn d) (drop (headerIn d) d) ≡ d
 unfolding headed
 header-again d b h l =
     let n = headerIn d - headerSize in

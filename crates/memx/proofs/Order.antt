@@ -12,13 +12,14 @@ use Rattle.memx.specs.Read.{readMessages, read}
 
 -- all that is checked of a packet, in one list
 module _ (d : List ℕ) where
-  pub checked-as-messages : kindIn d ≡ 2 → read d ≡ checked (headerChecks d ++ messagesChecks d)
+  pub checked-as-messages : kindIn d ≡ 2
+      → read d ≡ checked (headerChecks d ++ messagesChecks d)
       (taken (messages (sessionIn d) (numberIn d) (extraIn d) (messagesOf (blocksIn d))))
   unfolding read readMessages
   checked-as-messages k = rw k
 
-  pub checked-as-news : (kindIn d is 2) ≡ false → read d ≡ checked (headerChecks d ++ newsChecks d)
-      (taken (news (kindIn d) (sessionIn d) (numberIn d) (extraIn d)))
+  pub checked-as-news : (kindIn d is 2) ≡ false
+      → read d ≡ checked (headerChecks d ++ newsChecks d) (taken (news (kindIn d) (sessionIn d) (numberIn d) (extraIn d)))
   unfolding read readNews
   checked-as-news k = rw k
 

@@ -16,8 +16,9 @@ fox = 84 ∷ 104 ∷ 101 ∷ 32 ∷ 81 ∷ 117 ∷ 105 ∷ 99 ∷ 107 ∷ 32 ∷
 
 -- Jumped Over the Lazy Dog
 abbrev dog : List ℕ
-dog = 74 ∷ 117 ∷ 109 ∷ 112 ∷ 101 ∷ 100 ∷ 32 ∷ 79 ∷ 118 ∷ 101 ∷ 114 ∷ 32 ∷ 116 ∷ 104 ∷ 101 ∷ 32 ∷ 76 ∷ 97 ∷ 122 ∷ 121 ∷ 32 ∷ 68 ∷ 111 ∷ 103
-    ∷ []
+dog =
+    74 ∷ 117 ∷ 109 ∷ 112 ∷ 101 ∷ 100 ∷ 32 ∷ 79 ∷ 118 ∷ 101 ∷ 114 ∷ 32
+    ∷ 116 ∷ 104 ∷ 101 ∷ 32 ∷ 76 ∷ 97 ∷ 122 ∷ 121 ∷ 32 ∷ 68 ∷ 111 ∷ 103 ∷ []
 
 -- eight bytes that spell a small number
 abbrev eight : ℕ → List ℕ
@@ -47,8 +48,8 @@ unfolding read readNews be
 header-short = refl
 
 -- a header of 19 bytes: the last is skipped, and the count follows it
-pub one-skipped : read (2 ∷ 19 ∷ eight 1 ++ eight 6 ++ 171 ∷ 0 ∷ 1 ∷ 0 ∷ 2 ∷ 72 ∷ 73 ∷ []) ≡ taken
-    (messages 1 6 (171 ∷ []) ((72 ∷ 73 ∷ []) ∷ []))
+pub one-skipped : read (2 ∷ 19 ∷ eight 1 ++ eight 6 ++ 171 ∷ 0 ∷ 1 ∷ 0 ∷ 2 ∷ 72 ∷ 73 ∷ [])
+    ≡ taken (messages 1 6 (171 ∷ []) ((72 ∷ 73 ∷ []) ∷ []))
 unfolding read readMessages be cut
 one-skipped = refl
 

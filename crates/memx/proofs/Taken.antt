@@ -16,8 +16,8 @@ use Rattle.memx.specs.Read.{readNews, readMessages, read}
 module _ (d : List ℕ) (p : Packet) where
   pub data ByType : Type 0 where
     as-news : kindIn d ≤ 1 → Passed (newsChecks d) → news (kindIn d) (sessionIn d) (numberIn d) (extraIn d) ≡ p → ByType
-    as-messages : kindIn d ≡ 2 → Passed (messagesChecks d) → messages (sessionIn d) (numberIn d) (extraIn d) (messagesOf (blocksIn d)) ≡ p
-        → ByType
+    as-messages : kindIn d ≡ 2 → Passed (messagesChecks d)
+        → messages (sessionIn d) (numberIn d) (extraIn d) (messagesOf (blocksIn d)) ≡ p → ByType
 
   pub record Took : Type 0 where
     pub size : length d ≤ limit
@@ -40,7 +40,9 @@ module _ (d : List ℕ) (p : Packet) where
         by-type =
             chosen (k is 2) (readMessages d) (readNews k d) (taken p)
             (λ q f. let c = all-passed (messagesChecks d) m p f in as-messages (eqb-true k 2 q) (c .0) (taken-same _ p (c .1)))
-            (λ q f. let c = all-passed (newsChecks d) n p f in let other = eqb-false k 2 q in
+            (λ q f.
+            let c = all-passed (newsChecks d) n p f in
+            let other = eqb-false k 2 q in
             as-news (omega arith) (c .0) (taken-same _ p (c .1)))
             (r .1);
       }

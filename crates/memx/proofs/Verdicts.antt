@@ -39,15 +39,15 @@ blocksChecks first count blocks =
     ∷ []
 
 -- a sum is its first part exactly if the second is 0
-same-size : (a n : ℕ) → (a + n is a) ≡ (n is 0)
+pub same-size : (a n : ℕ) → (a + n is a) ≡ (n is 0)
 same-size a n =
     by-test (n is 0)
     (λ e. let z = eqb-true n 0 e in eq-eqb (a + n) a (omega arith) ∙ sym e)
     (λ e. let z = eqb-false n 0 e in ne-eqb (a + n) a (λ q. z (omega arith)) ∙ sym e)
 
 module _ (kind session number : ℕ) (extra follows : List ℕ) where
-  pub headed-verdict : let d = headed kind session number extra follows in read d ≡ checked (headedChecks kind extra (length follows))
-      (if kind is 2 then readMessages d else readNews kind d)
+  pub headed-verdict : let d = headed kind session number extra follows in
+      read d ≡ checked (headedChecks kind extra (length follows)) (if kind is 2 then readMessages d else readNews kind d)
   unfolding read
   headed-verdict =
       let n = headerSize + length extra + length follows in
@@ -57,11 +57,11 @@ module _ (kind session number : ℕ) (extra follows : List ℕ) where
         header-headed,
         ne-eqb n 0 (λ e. omega arith),
         le-leb headerSize n (omega arith),
-        le-leb headerSize
-            (headerSize + length extra) (omega arith),
+        le-leb headerSize (headerSize + length extra) (omega arith),
       )
 
-  pub news-verdict : session < 2 ^ 64 → number < 2 ^ 64 → (kind is 2) ≡ false → read (headed kind session number extra follows) ≡ checked
+  pub news-verdict : session < 2 ^ 64 → number < 2 ^ 64 → (kind is 2) ≡ false
+      → read (headed kind session number extra follows) ≡ checked
       (headedChecks kind extra (length follows) ++ restChecks number (length follows)) (taken (news kind session number extra))
   unfolding readNews
   news-verdict s h k =
@@ -72,14 +72,13 @@ module _ (kind session number : ℕ) (extra follows : List ℕ) where
         length-headed,
         header-headed,
         session-headed kind session number extra follows s,
-        number-headed
-            kind session number extra follows h,
+        number-headed kind session number extra follows h,
         same-size (headerSize + length extra) (length follows),
       )
 
 module _ (session first count : ℕ) (extra blocks : List ℕ) (s : session < 2 ^ 64) (f : first < 2 ^ 64) (c : count < 2 ^ 16) where
-  pub laid-verdict : read (laid session first count extra blocks) ≡ checked
-      (headedChecks 2 extra (2 + length blocks) ++ blocksChecks first count blocks)
+  pub laid-verdict : read (laid session first count extra blocks)
+      ≡ checked (headedChecks 2 extra (2 + length blocks) ++ blocksChecks first count blocks)
       (taken (messages session first extra (messagesOf (cut count blocks))))
   unfolding readMessages
   laid-verdict =
@@ -93,10 +92,8 @@ module _ (session first count : ℕ) (extra blocks : List ℕ) (s : session < 2 
         size,
         extra-headed,
         session-headed 2 session first extra follows s,
-        number-headed 2
-            session first extra follows f,
+        number-headed 2 session first extra follows f,
         count-laid session first count extra blocks c,
         blocks-laid,
-        le-leb (blocksAt d) (length d)
-            (omega arith),
+        le-leb (blocksAt d) (length d) (omega arith),
       )

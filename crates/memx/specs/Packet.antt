@@ -12,7 +12,18 @@ pub data Packet : Type 0 where
   shutdown : (session highest : ℕ) (extra : List ℕ) → Packet
   messages : (session first : ℕ) (extra : List ℕ) (ms : List (List ℕ)) → Packet
 
--- the most bytes that a packet may have: a frame of 9,000 less 28 for the headers around it
+-- its extra bytes, and the packet without them
+abbrev pub extraOf : Packet → List ℕ
+extraOf (heartbeat session highest extra) = extra
+extraOf (shutdown session highest extra) = extra
+extraOf (messages session first extra ms) = extra
+
+abbrev pub plain : Packet → Packet
+plain (heartbeat session highest extra) = heartbeat session highest []
+plain (shutdown session highest extra) = shutdown session highest []
+plain (messages session first extra ms) = messages session first [] ms
+
+-- the most bytes that a packet may have: a frame of 9,000 less 28 for the headers around it; Limits has the longest message that goes in
 abbrev pub limit : ℕ
 limit = 8972
 
@@ -25,7 +36,7 @@ unfoldable pub headed : (kind session number : ℕ) (extra follows : List ℕ) �
 headed kind session number extra follows =
     kind ∷ (headerSize + length extra) ∷ (bytesOf 8 session ++ (bytesOf 8 number ++ (extra ++ follows)))
 
--- messages that stand as blocks already
+-- messages that stand as blocks already; Specimen reads the paper's own example
 abbrev pub laid : (session first count : ℕ) (extra blocks : List ℕ) → List ℕ
 laid session first count extra blocks = headed 2 session first extra (bytesOf 2 count ++ blocks)
 
@@ -39,7 +50,7 @@ pub record FitExtra (extra : List ℕ) : Type 0 where
   pub few : length extra ≤ 237
   pub bytes : Bytes extra
 
--- the lawful packets: a heartbeat or shutdown, and messages
+-- the lawful packets: a heartbeat or shutdown, and messages; Exact shows that these are taken, and no others
 pub record FitNews (s h : ℕ) (x : List ℕ) : Type 0 where
   pub session : s < 2 ^ 64
   pub bound : h ≤ 2 ^ 64 - 2

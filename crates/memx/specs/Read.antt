@@ -78,6 +78,7 @@ readMessages d =
     checked (messagesChecks d)
     (taken (messages (sessionIn d) (numberIn d) (extraIn d) (messagesOf (blocksIn d))))
 
+-- Order shows in which order all this is checked, Exact that what is taken is what was written
 unfoldable pub read : List ℕ → Verdict Packet
 read d =
     checked (headerChecks d)

@@ -4,19 +4,24 @@ use Prim.Native.Nat.{ℕ, zero, suc, _+_, _≤_, _<_}
 use mathlib.Core.Path.{_≡_, refl, sym}
 use mathlib.Core.Logic.{inl, inr}
 use mathlib.Core.List.{List, [], _∷_, map}
-use mathlib.Core.Bool.{Bool, true, false, not, _&&_, _||_}
+use mathlib.Core.Bool.{Bool, true, false, not, _&&_, _||_, true≢false}
 use native.Mathlib.Omega.{arith}
 use borrow.Author.Tests.{ne-eqb, eqb-true, eqb-false, leb-true}
 use types.Run.{OneOf}
 use Rattle.wire.specs.Checks.{_is_, _atMost_}
 use Rattle.wire.proofs.Tests.{by-test, and-left, and-right}
-use Rattle.memx_tcp.specs.Layout.{Row, _isOneOf_, table, rowIn, known, fieldsOf, mostOf, size}
+use Rattle.memx_tcp.specs.Layout.{Row, _isOneOf_, table, rowIn, knownIn, known, fieldsOf, mostOf, size}
 use Rattle.memx_tcp.specs.Packet.{headerSize, limit}
 use Rattle.memx_tcp.specs.Read.{valuesIn}
 use Rattle.memx_tcp.specs.Reading.{fields, allNamed, fieldsBy}
 use Rattle.memx_tcp.specs.Writing.{under, valuesOf}
 
+infixr 5 _and_
 -- ---- rows
+
+-- a proof for a row, and those for the rows behind it
+abbrev pub _and_ : {A B : Type 0} → A → B → A × B
+a and b = (a, b)
 
 -- what each row has, and a row of nothing has
 abbrev Rows : (Row → Type 0) → List Row → Type 0
@@ -40,47 +45,33 @@ Again k s r =
 
 again-rows : (k : ℕ) (s : List ℕ) → Rows (Again k s) table
 unfolding valuesIn
-again-rows k s = (
-  (refl, refl),
-  (
-    (refl, refl),
-    (
-      (refl, refl),
-      (
-        (refl, refl),
-        (
-          (refl, refl),
-          (
-            (refl, refl),
-            (
-              (refl, refl),
-              (
-                (refl, refl),
-                (
-                  (refl, refl),
-                  (
-                    (refl, refl),
-                    (
-                      (refl, refl),
-                      ((refl, refl), ((refl, refl), ((refl, refl), ((refl, refl), ((refl, refl), ((refl, refl), λ kind. (refl, refl))))))),
-                    ),
-                  ),
-                ),
-              ),
-            ),
-          ),
-        ),
-      ),
-    ),
-  ),
-)
+again-rows k s =
+    (refl, refl) and (refl, refl) and (refl, refl) and (refl, refl) and (refl, refl) and (refl, refl)
+    and (refl, refl) and (refl, refl) and (refl, refl) and (refl, refl) and (refl, refl) and (refl, refl)
+    and (refl, refl) and (refl, refl) and (refl, refl) and (refl, refl) and (refl, refl) and (λ kind. (refl, refl))
 
-pub named-again : (k : ℕ) (s : List ℕ) → let p = fieldsBy k (valuesIn (fieldsOf k) s) in (p .kind ≡ k)
-    × (valuesOf p ≡ valuesIn (fieldsOf k) s)
+pub named-again : (k : ℕ) (s : List ℕ) → let p = fieldsBy k (valuesIn (fieldsOf k) s) in
+    (p .kind ≡ k) × (valuesOf p ≡ valuesIn (fieldsOf k) s)
 unfolding fieldsOf fieldsBy valuesOf
 named-again k s =
     let a : Again k s (rowIn table k) = of-row (Again k s) table k (again-rows k s) in
     (a .0, rw (a .0) (a .1))
+
+-- what the type of each row has, a known type has
+abbrev pub Types : (ℕ → Type 0) → List Row → Type 0
+Types P [] = Unit
+Types P (r ∷ rows) = P (r .kind) × Types P rows
+
+of-types : (P : ℕ → Type 0) (rows : List Row) (k : ℕ) → Types P rows → knownIn rows k ≡ true → P k
+of-types P [] k h e = absurd (true≢false (sym e))
+of-types P (r ∷ rows) k h e =
+    by-test (k is r .kind)
+    (λ q. rw (eqb-true k (r .kind) q) (h .0))
+    (λ q. of-types P rows k (h .1) (rw q at e))
+
+pub of-known : (P : ℕ → Type 0) → Types P table → (k : ℕ) → known k ≡ true → P k
+unfolding known
+of-known P h k e = of-types P table k h e
 
 -- ---- bytes
 

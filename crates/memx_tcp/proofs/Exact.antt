@@ -8,7 +8,7 @@ use borrow.Author.Tests.{le-leb}
 use lib.ListN.{length, drop, length-drop}
 use lib.Seq.{drop-cons, drop-drop}
 use Rattle.wire.specs.Fields.{Bytes}
-use Rattle.wire.specs.Checks.{_is_, taken}
+use Rattle.wire.specs.Checks.{taken}
 use Rattle.wire.proofs.Checks.{all-passed, taken-same}
 use Rattle.wire.proofs.Width.{bytes-drop, written-again}
 use Rattle.memx_tcp.specs.Layout.{fieldsOf, mostOf, size}

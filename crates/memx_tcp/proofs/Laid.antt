@@ -1,6 +1,6 @@
 -- Values side by side, over any list of fields: how long they are, read as they were laid out, laid out as they were read.
 -- Assumes nothing.
-use Prim.Native.Nat.{ℕ, _+_, _≤_}
+use Prim.Native.Nat.{ℕ, _≤_}
 use mathlib.Core.Path.{_≡_, refl}
 use mathlib.Core.List.{List, [], _∷_, _++_, append-assoc}
 use native.Mathlib.Nat.{zero-add}
@@ -35,8 +35,7 @@ values-laid (f ∷ fs) (v ∷ vs) t h =
     rw (
       append-assoc (bytesOf k v) (laid fs vs) t,
       be-bytesOf k v (laid fs vs ++ t) (h .0),
-      drop-at (bytesOf k v) (laid fs vs ++ t) k
-          (length-bytesOf k v),
+      drop-at (bytesOf k v) (laid fs vs ++ t) k (length-bytesOf k v),
       values-laid fs vs t (h .1),
     )
 

@@ -20,8 +20,8 @@ use Rattle.memx_tcp.proofs.Every.{Missed, otherwise, logins}
 abbrev pub Has : ℕ → ℕ → Type 0
 Has n k = n ≡ size (fieldsOf k)
 
-pub has : Has 1 1 × Has 1 2 × Has 8 3 × Has 12 5 × Has 1 6 × Has 4 7 × Has 16 8 × Has 1 9 × Has 8 10 × Has 1 100 × Has 20 101 × Has 8 102
-    × Has 16 103
+pub has : Has 1 1 × Has 1 2 × Has 8 3 × Has 12 5 × Has 1 6 × Has 4 7 × Has 16 8 × Has 1 9 × Has 8 10
+    × Has 1 100 × Has 20 101 × Has 8 102 × Has 16 103
 unfolding fieldsOf size
 has = (refl, refl, refl, refl, refl, refl, refl, refl, refl, refl, refl, refl, refl)
 

@@ -47,8 +47,8 @@ module _ (p : Packet) (h : Sized (fieldsOf (p .kind)) (p .values)) where
       let fields = laid (fieldsOf (p .kind)) (p .values) in
       let l = length-laid (fieldsOf (p .kind)) (p .values) h in
       let same : length (fields ++ p .tail) ≡ n = rw (length-append fields (p .tail)) (omega arith) in
-      rw (z, y, x, take-length, same, i) (sets-after (sets (set out 0 (p .kind)) 1 (bytesOf 2 n)) 3 (size (fieldsOf (p .kind))) fields
-      (p .tail) l)
+      rw (z, y, x, take-length, same, i)
+      (sets-after (sets (set out 0 (p .kind)) 1 (bytesOf 2 n)) 3 (size (fieldsOf (p .kind))) fields (p .tail) l)
 
 module _ (out : List ℕ) (p : Fields) where
   -- what is left, were the fields those of the type k

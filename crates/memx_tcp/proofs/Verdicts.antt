@@ -8,7 +8,7 @@ use borrow.Author.Tests.{le-leb, eq-eqb, ne-eqb, leb-true}
 use lib.ListN.{length, drop, length-append}
 use lib.Seq.{drop-drop}
 use Rattle.wire.specs.Fields.{bytesOf}
-use Rattle.wire.specs.Checks.{_is_, _atMost_, Check, _else_, checked, taken}
+use Rattle.wire.specs.Checks.{_atMost_, Check, _else_, checked, taken}
 use Rattle.wire.proofs.Tests.{by-test}
 use Rattle.wire.proofs.Width.{be-bytesOf}
 use Rattle.memx_tcp.specs.Layout.{Field, lettered, numbered, known, fieldsOf, mostOf, size}
@@ -54,8 +54,7 @@ module _ (p : Packet) (h : Sized (fieldsOf (p .kind)) (p .values)) where
       rw (
         length-written,
         eq-eqb (headerSize + statedIn (write p)) whole (stated-written s),
-        le-leb (headerSize + size fields) whole
-            (omega arith),
+        le-leb (headerSize + size fields) whole (omega arith),
         tail-written,
       )
 

@@ -77,7 +77,7 @@ abbrev _has_thenUpTo_ : ℕ → List Field → ℕ → Row
 kind has fields thenUpTo most = record { kind = kind; fields = fields; most = most }
 
 -- heartbeat; login accepted, login rejected; start and end of session; replay begin, rejected, complete; stream begin, rejected, complete;
--- sequenced message; then the client's: login, replay, replay all, stream, unsequenced message
+-- sequenced message; then the client's: login, replay, replay all, stream, unsequenced message. Specimen reads a packet of each
 abbrev pub table : List Row
 table =
     (0 has [] thenUpTo 0)

@@ -48,7 +48,7 @@ each test [] vs = true
 each test (f ∷ fs) [] = true
 each test (f ∷ fs) (v ∷ vs) = test f v && each test fs vs
 
--- the lawful packets
+-- the lawful packets; Exact shows that these are taken, and no others
 pub record Fit (p : Packet) : Type 0 where
   pub type : known (p .kind) ≡ true
   pub sizes : Sized (fieldsOf (p .kind)) (p .values)

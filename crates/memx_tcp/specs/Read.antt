@@ -42,6 +42,7 @@ framed d =
     && endIn d atMost length d
     && length (drop (endIn d) d) atMost mostOf (kindIn d)
 
+-- Order shows that they stand in the readers' order
 abbrev pub checks : List ℕ → List Check
 checks d =
     (not (length d is 0) else 1)
@@ -52,5 +53,6 @@ checks d =
     ∷ (each numbered (fieldsIn d) (packetIn d .values) else 6)
     ∷ []
 
+-- Exact shows that what is taken is what was written
 unfoldable pub read : List ℕ → Verdict Packet
 read d = checked (checks d) (taken (packetIn d))

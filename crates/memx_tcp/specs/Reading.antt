@@ -1,6 +1,6 @@
 -- What the code answers: a packet's fields by name, and where its token or payload stands.
 -- Assumes nothing.
-use Prim.Native.Nat.{ℕ, _+_, _-_}
+use Prim.Native.Nat.{ℕ, _+_}
 use mathlib.Core.List.{List, [], _∷_}
 use lib.ListN.{length}
 use Rattle.wire.specs.Checks.{if_then_else_, _is_, Verdict, refused, taken}
@@ -30,7 +30,7 @@ allNamed [] vs p = p
 allNamed (f ∷ fs) [] p = p
 allNamed (f ∷ fs) (v ∷ vs) p = allNamed fs vs (named f v p)
 
--- those that the type lacks are 0
+-- those that the type lacks are 0; Every shows that each value is found again under its name
 unfoldable pub fieldsBy : ℕ → List ℕ → Fields
 fieldsBy kind values = allNamed (fieldsOf kind) values (fields kind 0 0 0 0 0)
 

@@ -6,7 +6,7 @@ use Rattle.wire.specs.Reply.{Reply, settle}
 use Rattle.memx.specs.Packet.{Packet, write}
 use Rattle.memx.specs.Read.{read}
 
--- bytes as they would be written, and a packet
+-- bytes as they would be written, and a packet; Extra shows what too many extra bytes come to
 abbrev pub sent : List ℕ → ℕ → Reply
 sent packet room = settle (read packet) packet room
 

@@ -21,9 +21,10 @@ module _ (b : ℕ) where
   last-or-near : (m : ℕ) (r : Range) (rs : List Range) → Apart m (r ∷ rs) → Gaps b m (r ∷ rs) → (rs ≡ []) ⊎ (r .last .0 + 1 ≤ b)
   last-or-near m r [] a g = inl refl
   last-or-near m r (q ∷ rs) a g =
-      let over : Within (r .last .0 + 1) (r ∷ q ∷ rs)
-      → ⊥ = ⊎-elim (λ i. omega arith) (none-below (r .last .0 + 1) (r .last .0 + 2) (q ∷ rs) (a .2) (omega arith)) in
-      inr (g (r .last .0 + 1) (q .first .0) (omega arith) (omega arith) (inr (inl (omega arith, a .2 .1))) over)
+      let end : ℕ = r .last .0 in
+      let over : Within (end + 1) (r ∷ q ∷ rs) → ⊥ =
+      ⊎-elim (λ i. omega arith) (none-below (end + 1) (end + 2) (q ∷ rs) (a .2) (omega arith)) in
+      inr (g (end + 1) (q .first .0) (omega arith) (omega arith) (inr (inl (omega arith, a .2 .1))) over)
 
   few : (m : ℕ) (rs : List Range) → Apart m rs → Gaps b m rs → m ≤ b + 1 → 2 * length rs + m ≤ b + 3
   few m [] a g h = omega arith
@@ -36,8 +37,12 @@ module _ (b : ℕ) where
 
 pub at-most-17 : (held next top : ℕ) → length (missing held next top) ≤ 17
 at-most-17 held next top =
-    let between : Gaps (next + 31) next (missing held next top) = λ k n f l w v. by-test (isHeld held next k)
-    (λ e. held-within held next k e .1) (λ e. let o = missing-exactly held next top n .0 w in
-    absurd (v (missing-exactly held next top k .1 (f, omega arith, e)))) in
     let i = few (next + 31) next (missing held next top) (missing-apart held next top) between (omega arith) in
-    omega arith
+    omega arith where
+      between : Gaps (next + 31) next (missing held next top)
+      between k n f l w v =
+          by-test (isHeld held next k)
+          (λ e. held-within held next k e .1)
+          (λ e.
+          let o = missing-exactly held next top n .0 w in
+          absurd (v (missing-exactly held next top k .1 (f, omega arith, e))))

@@ -17,8 +17,7 @@ pub held-ahead : (held next ahead : ℕ) → isHeld held next (next + ahead) ≡
 held-ahead held next ahead =
     rw (
       leb-same (next + 1) (next + ahead) 1 ahead (λ h. omega arith) (λ h. omega arith),
-      leb-same (next + ahead) (next + 31) ahead 31
-          (λ h. omega arith) (λ h. omega arith),
+      leb-same (next + ahead) (next + 31) ahead 31 (λ h. omega arith) (λ h. omega arith),
     )
 
 module _ (held next m : ℕ) where

@@ -3,7 +3,7 @@
 use Prim.Native.Nat.{ℕ, zero, suc, _+_, _-_, _≤_, _<_}
 use mathlib.Core.Path.{_≡_, refl, sym, _∙_}
 use mathlib.Core.List.{List, [], _∷_}
-use mathlib.Core.Bool.{Bool, true, false, true≢false}
+use mathlib.Core.Bool.{Bool, true≢false}
 use native.Mathlib.Omega.{arith}
 use Rattle.missing.specs.Missing.{isHeld, _to_, ranges, missing, _at_}
 use Rattle.missing.specs.Runs.{LastOf, PastHeld}
@@ -16,16 +16,16 @@ abbrev pub rest : (ℕ → Bool) → (next reach first : ℕ) → List Range
 rest so next reach first = ranges so (next + first) (reach + 1 - first)
 
 module _ (so : ℕ → Bool) (next reach : ℕ) where
-  pub one-more : (first last : ℕ) → LastOf so next reach first last → rest so next reach first ≡ ((next + first) to (next + last)) ∷ rest so
-      next reach (last + 1)
+  pub one-more : (first last : ℕ) → LastOf so next reach first last
+      → rest so next reach first ≡ ((next + first) to (next + last)) ∷ rest so next reach (last + 1)
   one-more first last l =
       let d = last - first in
       let a : suc d + (reach - last) ≡ reach + 1 - first = omega arith in
       let b : next + first + d ≡ next + last = omega arith in
       let e : next + first + suc d ≡ next + (last + 1) = omega arith in
       let f : reach - last ≡ reach + 1 - (last + 1) = omega arith in
-      rw (a, b, e, f) at (one-range so d (next + first) (reach - last) (λ k g h. l .gap k g (omega arith))
-      (λ h. rw e (l .ends (omega arith))))
+      rw (a, b, e, f) at
+      (one-range so d (next + first) (reach - last) (λ k g h. l .gap k g (omega arith)) (λ h. rw e (l .ends (omega arith))))
 
   pub past-them : (ahead past : ℕ) → PastHeld so next ahead past → rest so next reach ahead ≡ rest so next reach past
   past-them ahead past p =

@@ -28,7 +28,7 @@ unfoldable pub ranges : (ℕ → Bool) → (m n : ℕ) → List Range
 ranges so m zero = []
 ranges so m (suc n) = if so m then ranges so (suc m) n else m before ranges so (suc m) n
 
--- from N to T, those that are not held; none if N > T
+-- from N to T, those that are not held; none if N > T; Exactly.missing-exactly: these and no others, missing-apart: in ranges apart
 unfoldable pub missing : (held next top : ℕ) → List Range
 missing held next top = ranges (isHeld held next) next (top + 1 - next)
 

@@ -7,6 +7,7 @@ use Rattle.wire.specs.Fields.{be, bytesOf}
 use Rattle.wire.specs.declared.kinds.Name.{Name}
 use Rattle.wire.specs.declared.kinds.User.{User}
 
+-- Packing shows that packing bytes and laying them out again are inverse to each other
 abbrev pub nameBytes : Name → List ℕ
 nameBytes n = bytesOf 2 (n .0) ++ bytesOf 8 (n .1)
 

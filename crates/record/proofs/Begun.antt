@@ -1,7 +1,6 @@
 -- Numbers begin at 1: a record that would wait for message 0 is refused as broken, and an opened one waits for message 1.
 -- Assumes nothing.
-use Prim.Native.Nat.{ℕ}
-use mathlib.Core.Path.{_≡_, refl, ap, sym, _∙_}
+use mathlib.Core.Path.{_≡_, refl, ap, sym}
 use mathlib.Core.Bool.{false, not}
 use mathlib.Core.List.{[], _∷_}
 use Rattle.wire.specs.Checks.{refused, taken, _else_}

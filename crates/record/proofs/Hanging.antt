@@ -10,6 +10,7 @@ use Rattle.record.specs.Record.{lawful, highest, hangs}
 use Rattle.record.specs.declared.Record.{Record}
 use Rattle.wire.proofs.Tests.{both}
 
+-- `hangs` says so exactly if all of this is so
 pub record Hanging (r : Record) : Type 0 where
   pub begun : 1 ≤ r .next .0
   pub near : r .next .0 ≤ r .top .0 + 1
@@ -46,8 +47,7 @@ hangs-so r h =
       le-leb 1 (r .next .0) (h .begun),
       le-leb (r .next .0) (r .top .0 + 1) (h .near),
       le-leb (r .asked .0) (r .next .0) (h .old),
-      le-leb
-          (r .top .0) (highest (r .session)) (h .bound),
+      le-leb (r .top .0) (highest (r .session)) (h .bound),
       h .named,
       h .placed,
     )

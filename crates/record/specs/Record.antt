@@ -25,7 +25,7 @@ fresh session = record {
   held = 0;
 }
 
--- a UFO session is a text field as in `A`
+-- a UFO session is a text field as in `A`: reports' Own.opens-as-in-A
 abbrev pub opening : Name → Verdict Record
 opening name =
     checked ((textThenSpaces (nameBytes name) else 5) ∷ (not (blank (nameBytes name)) else 6) ∷ [])
@@ -54,5 +54,6 @@ wellKept r =
     && r .top .0 atMost highest (r .session)
     && lawful (r .session)
 
+-- and what is held stands for numbers behind N; Hanging.hanging and hangs-so say it as facts
 unfoldable pub hangs : Record → Bool
 hangs r = wellKept r && inPlace (r .held) (r .next .0) (r .top .0)

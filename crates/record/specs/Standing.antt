@@ -25,7 +25,7 @@ pub data State : Type 0 where
 abbrev pub lacks : Record → Bool
 lacks r = r .next .0 atMost r .top .0
 
--- missing is what of N to T is not held
+-- missing is what of N to T is not held: Complete.missing-means
 abbrev pub missingOf : Record → List Range
 missingOf r = ranges.missing (r .held) (r .next .0) (r .top .0)
 
@@ -39,6 +39,7 @@ state r =
     if isComplete r then complete else
     ongoing
 
+-- Complete.standing-means: what each answer says of N, T and the end
 unfoldable pub standing : Record → Verdict State
 standing r = checked ((hangs r else 10) ∷ []) (taken (state r))
 

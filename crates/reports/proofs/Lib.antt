@@ -1,4 +1,6 @@
 pub mod Reports
+pub mod Opening
 pub mod Order
-pub mod Own
+pub mod Whose
 pub mod Skipped
+mod Settled

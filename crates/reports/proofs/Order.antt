@@ -1,5 +1,5 @@
--- A datagram is reported in the scope's order: the reader's refusal stands; then 16, for what is not for the record; in MEMX style 11, for
--- another session.
+-- A datagram is reported in the scope's order: the reader's refusal stands; then in UFO style 16, for what is not for the record, and in
+-- MEMX style 11, for another session. UFO has no 11: an `S` or an `E` names no session.
 -- Assumes nothing.
 use Prim.Native.Nat.{ℕ}
 use mathlib.Core.Path.{_≡_}
@@ -27,6 +27,7 @@ module _ (name : Name) (d : List ℕ) where
   unfolding reportOf
   then-reject-is-16 reason e = rw e
 
+-- the session that a MEMX packet names
 abbrev pub sessionOf : memx.Packet → ℕ
 sessionOf (memx.heartbeat session highest extra) = session
 sessionOf (memx.shutdown session highest extra) = session

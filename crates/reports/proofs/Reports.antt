@@ -1,4 +1,4 @@
--- What is reported: a report of the record's own session, whose numbers keep the style's bounds and whose blocks stand in the datagram.
+-- What is reported: its numbers keep the style's bounds, and its blocks stand in the datagram. Whose tells of its session.
 -- Assumes nothing.
 use Prim.Native.Nat.{ℕ, _+_, _^_, _≤_, _<_}
 use mathlib.Core.List.{List, [], _∷_}
@@ -12,6 +12,7 @@ use Rattle.wire.specs.declared.kinds.Name.{Name}
 use Rattle.wire.specs.declared.kinds.SessionId.{SessionId}
 use Rattle.wire.proofs.Checks.{not-both, all-passed, went}
 use Rattle.blocks.specs.Blocks.{whole, cut}
+use Rattle.blocks.proofs.Counting.{fills-cut, length-cut}
 use Rattle.ufo.specs.Down as ufo
 use Rattle.ufo.proofs.DownMessages.{carries}
 use Rattle.ufo.proofs.Exact as ufoExact
@@ -41,7 +42,11 @@ standing : (d : List ℕ) (p first : ℕ) (ms : List (List ℕ)) → p ≤ lengt
     → first + length ms < 2 ^ 64 → Stand d p (messages first ms)
 standing d p first ms h c s b = (record { blocks = rw (le-leb p (length d) h, c); some = s; bound = b }, rw c)
 
--- a report of the own session is what was said
+-- there are as many messages as are counted
+pub counted : (d : List ℕ) (p first count : ℕ) → Fills d p first count → length (blocksFrom d p count) ≡ count
+counted d p first count f = length-cut count (drop p d) (blocksFrom d p count) (fills-cut d p count (f .blocks) .1)
+
+-- what a MEMX packet of the own session says is what is reported
 owns : (id : SessionId) (session : ℕ) (d : List ℕ) (said report : Report) → Sound (Memx id) d said
     → owned (id .0) session said ≡ taken report → Sound (Memx id) d report
 owns id session d said report s e =

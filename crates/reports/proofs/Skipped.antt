@@ -7,22 +7,16 @@ use native.Mathlib.Omega.{arith}
 use lib.ListN.{length}
 use Rattle.wire.specs.declared.kinds.SessionId.{SessionId}
 use Rattle.blocks.specs.Blocks.{frames}
-use Rattle.memx.specs.Packet.{Packet, heartbeat, shutdown, messages, limit, write, FitExtra, Fit}
+use Rattle.memx.specs.Packet.{Packet, heartbeat, shutdown, messages, plain, limit, write, FitExtra, Fit}
 use Rattle.memx.proofs.Header.{length-laid}
 use Rattle.record.specs.declared.Session.the-variants.{Memx}
 use Rattle.reports.specs.Reports.{ofMemx, reportOf}
 use Rattle.reports.proofs.Reports.{reports-memx}
 
--- a packet without its extra bytes
-abbrev pub plain : Packet → Packet
-plain (heartbeat session highest extra) = heartbeat session highest []
-plain (shutdown session highest extra) = shutdown session highest []
-plain (messages session first extra ms) = messages session first [] ms
-
 none-fit : FitExtra []
 none-fit = record { few = omega arith; bytes = λ i. omega arith }
 
--- which is shorter
+-- without its extra bytes a packet is shorter
 no-longer : (session first : ℕ) (extra : List ℕ) (ms : List (List ℕ)) → length (write (messages session first extra ms)) ≤ limit
     → length (write (messages session first [] ms)) ≤ limit
 unfolding write

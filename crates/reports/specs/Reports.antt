@@ -32,14 +32,14 @@ isEnd (messages first ms) = false
 isEnd (news highest) = false
 isEnd (end total) = true
 
--- `A` and `J` are not for the record
+-- `A` and `J` are not for the record; `S` and `E` name no session, so that whatever comes is taken for the record's
 abbrev pub ofUfo : ufo.Packet → Verdict Report
 ofUfo (ufo.accept session next) = refused 16
 ofUfo (ufo.reject reason) = refused 16
 ofUfo (ufo.messages first ms) = taken (messages first ms)
 ofUfo (ufo.end total) = taken (end total)
 
--- a report of the record's own session
+-- a MEMX packet names its session, and only the record's own is reported: Whose.reported-memx
 abbrev pub owned : ℕ → ℕ → Report → Verdict Report
 owned own session report = checked ((session is own else 11) ∷ []) (taken report)
 
@@ -49,6 +49,7 @@ ofMemx own (memx.heartbeat session highest extra) = owned own session (news high
 ofMemx own (memx.shutdown session highest extra) = owned own session (end highest)
 ofMemx own (memx.messages session first extra ms) = owned own session (messages first ms)
 
+-- Reports.sound: what is reported keeps the style's bounds; reports-ufo, reports-memx: a lawful packet, written, is reported as what it is
 unfoldable pub reportOf : Session → List ℕ → Verdict Report
 reportOf (Ufo name) d = ufo.read d into ofUfo
 reportOf (Memx id) d = memxRead.read d into ofMemx (id .0)

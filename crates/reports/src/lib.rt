@@ -33,6 +33,7 @@ pub enum Reported {
     },
 }
 
+// An `S` or an `E` names no session: it is taken for the record's.
 fn ufo_report(datagram: &[u8]) -> Reported
     ensures { λ r. ⌜ r ≡ reportedOf 7 (ufo.read (now (datagram .entry)) into ofUfo) ⌝ }
 {
@@ -53,6 +54,7 @@ fn ufo_report(datagram: &[u8]) -> Reported
     }
 }
 
+// A MEMX packet names its session, and only the record's own is reported.
 fn owned(own: SessionId, session: SessionId, report: Reported) -> Reported
     ensures { λ r. ⌜ r ≡ (if session .0 is own .0 then report else Reported.Refused 11) ⌝ }
 {
@@ -64,8 +66,8 @@ fn owned(own: SessionId, session: SessionId, report: Reported) -> Reported
 }
 
 fn memx_report(own: SessionId, datagram: &[u8]) -> Reported
-    ensures { λ r. ⌜ r ≡ reportedOf (memxRead.blocksAt (now (datagram .entry))) (memxRead.read (now (datagram .entry)) into ofMemx (own .0))
-        ⌝ }
+    ensures { λ r. ⌜ r ≡ reportedOf (memxRead.blocksAt (now (datagram .entry)))
+        (memxRead.read (now (datagram .entry)) into ofMemx (own .0)) ⌝ }
 {
     let packet = reading::read(datagram);
     match packet {

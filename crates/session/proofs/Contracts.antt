@@ -21,6 +21,8 @@ use Rattle.log.specs.declared.Logged.{Logged}
 use Rattle.log.proofs.Adding.{declared}
 use Rattle.taking.specs.Taking.{Taking, taking, takenOf, Answered}
 use Rattle.asking.specs.Asking.{Wish, nothing, wait, request as wanted, asking, askedOf}
+use Rattle.record.specs.Record.{opening}
+use Rattle.record.specs.Standing.{standing}
 use Rattle.record.specs.declared.Record.{Record}
 use Rattle.taking.specs.declared.Taken.{Taken}
 use Rattle.session.specs.Session.{State, declares, answers, serves, takes, sent, toMessage, toEach, toPacket, logging, sending}
@@ -28,7 +30,8 @@ use Rattle.session.specs.Session.{delivering, saying, wishing, step}
 use Rattle.session.specs.Caller.{withLog, written, withTaken, onceTaken, onceAsked, LeavesAsked, LeavesAnswered, LeavesMessage}
 use Rattle.session.specs.Caller.{LeavesEach, LeavesServed, ByContract}
 use Rattle.session.proofs.Invariant.{Known, Inv}
-use Rattle.session.proofs.EveryStep.{took-so, fits, told-if-taken}
+use Rattle.session.proofs.EveryStep.{took-so, fits, vouched-if-taken}
+use Rattle.session.proofs.Telling.{opened-left, standing-left}
 
 -- what enters the log
 log-left : (s : State) (v : Verdict Kept) (r : Logged) (left : List ℕ) → Entered v (s .lent) r left → withLog s r left ≡ logging s v
@@ -67,7 +70,8 @@ each-left : (s : State) (room : ℕ) (d : List ℕ) (ms : List Message) (place :
     → InTurn d place ms → left (toEach s room ms) → LeavesEach s room d (length ms) place left
 each-left s room d [] place left t l = l
 each-left s room d (m ∷ ms) place left t l =
-    λ κs a x e g p. rw (p, g .0, g .1, t .0) (message-left s room (endAt d place) (toEach s room ms) (LeavesEach s room d (length ms))
+    λ κs a x e g p. rw (p, g .0, g .1, t .0)
+    (message-left s room (endAt d place) (toEach s room ms) (LeavesEach s room d (length ms))
     (λ then. each-left s room d ms (endAt d place) then (t .1)) m left l)
 
 packet-left : (s : State) (room : ℕ) (d : List ℕ) → Bytes d → LeavesServed s room d (upstreamOf (readUp d))
@@ -90,7 +94,7 @@ delivery-left s i d known room out r area left kept e k = by (taking (s .kept) (
   by (refused n) q a k = rw (a .answer, a .slots, k, append-nil)
   by (taken t) q a k =
       let ms : List (List ℕ) = t .delivered in
-      let g = told-if-taken s i d known room t q in
+      let g = vouched-if-taken s i d known room t q in
       let same = took-so s i d g room t q in
       let z : length (frames ms) ≤ 47097 = rw same (fits s i d g) in
       rw (
@@ -99,8 +103,7 @@ delivery-left s i d known room out r area left kept e k = by (taking (s .kept) (
         a .slots,
         k,
         take-append-seam (frames ms) (drop (length (frames ms)) out),
-        cut-frames ms
-            (short-frames ms (omega arith)),
+        cut-frames ms (short-frames ms (omega arith)),
       )
 
 -- what the recorder asks
@@ -122,8 +125,11 @@ by-contract s i = record {
   accept = λ session next room κs a x e g p. ap (sending s) (datagram-left _ _ x _ (rw (g .0, g .1, g .2) at p));
   reject = λ reason room κs a x e g p. ap (sending s) (datagram-left _ _ x _ (rw (g .0, g .1) at p));
   serve = λ datagram room b κs a x e g p. rw (p, g) (packet-left s room datagram b);
-  take = λ datagram room m κs a x e g p. let q = rw (g .0, g .1, g .2, g .3) at p in delivery-left s i datagram (i .line datagram m) room _
-      x _ _ _ q (rw (q .answer));
+  take = λ datagram room m κs a x e g p.
+      let q = rw (g .0, g .1, g .2, g .3) at p in
+      delivery-left s i datagram (i .line datagram m) room _ x _ _ _ q (rw (q .answer));
   ask = λ sheet rule elapsed room κs a x e g p. rw (p, g .0, g .1, g .2, g .3)
       (request-left s room (asking (s .kept) sheet rule elapsed) _ refl);
+  openUfo = λ session. opened-left session (λ opened. opening session ≡ opened) refl;
+  standing = standing-left (s .kept) (λ told. standing (s .kept) ≡ told) refl;
 }

@@ -16,14 +16,14 @@ use Rattle.blocks.proofs.Places.{frames-split}
 use Rattle.session.specs.Session.{State, logged}
 use Rattle.session.specs.Promise.{Faithful, Delivered}
 use Rattle.session.proofs.Logs.{Hung}
-use Rattle.session.proofs.Reports.{held-known}
+use Rattle.session.proofs.Genuine.{held-known}
 use Rattle.session.proofs.Invariant.{Inv}
 use Rattle.session.proofs.EveryStep.{hung-record}
 
 -- the lent bytes begin with the log's blocks, and these with the blocks of its first messages
 log-bytes : (l : Log) (s : List ℕ) → Hung l s → frames (messagesIn l s) ≡ take (l .used) s
-log-bytes l s h = frames-cut (l .count) (take (l .used) s) (messagesIn l s) (bytes-take (l .used) s (h .bytes))
-    (hanging l s (h .whole) .cuts) .0
+log-bytes l s h =
+    frames-cut (l .count) (take (l .used) s) (messagesIn l s) (bytes-take (l .used) s (h .bytes)) (hanging l s (h .whole) .cuts) .0
 
 first-bytes : (l : Log) (s : List ℕ) → Hung l s → (n : ℕ) (got : List (List ℕ)) → got ≡ take n (messagesIn l s)
     → frames got ≡ take (length (frames got)) s
@@ -31,7 +31,8 @@ first-bytes l s h n got e =
     let ms : List (List ℕ) = messagesIn l s in
     let more : List ℕ = frames (drop n ms) ++ drop (l .used) s in
     let all : s ≡ frames got ++ more =
-    sym (take-append-drop (l .used) s) ∙ ap (λ (x : List ℕ). x ++ drop (l .used) s)
+    sym (take-append-drop (l .used) s)
+    ∙ ap (λ (x : List ℕ). x ++ drop (l .used) s)
     (sym (log-bytes l s h) ∙ frames-split n ms ∙ ap (λ (x : List (List ℕ)). frames x ++ frames (drop n ms)) (sym e))
     ∙ append-assoc (frames got) (frames (drop n ms)) (drop (l .used) s) in
     sym (ap (take (length (frames got))) all ∙ take-append-seam (frames got) more)

@@ -25,9 +25,9 @@ use Rattle.session.specs.Session.{enough, State, logged, Act, adds, adds
 use Rattle.session.specs.Session.{serves, takes, asks, says, Allowed, sent, toMessage, toEach, toPacket, logging, sending, delivering}
 use Rattle.session.specs.Session.{saying, wishing, step, Run, stop, then, Reached}
 use Rattle.session.specs.Promise.{LoginAnswer, Received, took, passed}
-use Rattle.session.proofs.Reports.{Brings}
+use Rattle.session.proofs.Genuine.{Brings}
 use Rattle.session.proofs.Growing.{longer, stays, still}
-use Rattle.session.proofs.Logs.{Leaves, adding-leaves, adding-many-leaves, declaring-leaves}
+use Rattle.session.proofs.Logs.{LogAfter, adding-leaves, adding-many-leaves, declaring-leaves}
 use Rattle.session.proofs.Line.{lends}
 use Rattle.session.proofs.Logins.{accept-answers, reject-answers, reports-none, refuses-login}
 use Rattle.session.proofs.Recording as recording
@@ -35,7 +35,7 @@ use Rattle.session.proofs.Invariant.{Vouches, Known, tells, greets, Inv
 
 module _ (s : State) (i : Inv s) where
   -- what enters the log
-  grown : (v : Verdict Kept) → ((k : Kept) → v ≡ taken k → Leaves (s .log) (s .lent) k) → Good s (logging s v)
+  grown : (v : Verdict Kept) → ((k : Kept) → v ≡ taken k → LogAfter (s .log) (s .lent) k) → Good s (logging s v)
   grown (refused n) f = stays-put s i
   grown (taken k) f =
       let l = f k refl in
@@ -51,7 +51,7 @@ module _ (s : State) (i : Inv s) where
         later = record { next = omega arith; top = omega arith; over = λ e. e; log = a; down = λ d m. m; up = λ d m. m };
       }
     where
-      again : (t : State) (l : Leaves (s .log) (s .lent) (record { log = t .log; bytes = t .lent })) (d : List ℕ) → Vouches s d
+      again : (t : State) (l : LogAfter (s .log) (s .lent) (record { log = t .log; bytes = t .lent })) (d : List ℕ) → Vouches s d
           → Vouches t d
       again t l d w = record {
         packet = w .packet;
@@ -63,7 +63,7 @@ module _ (s : State) (i : Inv s) where
         };
       }
 
-      still-known : (t : State) (l : Leaves (s .log) (s .lent) (record { log = t .log; bytes = t .lent })) (d : List ℕ) → Known s d
+      still-known : (t : State) (l : LogAfter (s .log) (s .lent) (record { log = t .log; bytes = t .lent })) (d : List ℕ) → Known s d
           → Known t d
       still-known t l d (tells w) = tells (again t l d w)
       still-known t l d (greets g) = greets g
@@ -154,13 +154,13 @@ module _ (s : State) (i : Inv s) where
     passed-by l room = refuses-login (s .kept) (s .area) (i .named .name) (i .named .ufo) hung-record (i .hold .sound) d l room
 
     -- what reports something, or is taken, is vouched for
-    pub told : Known s d → (p : ufo.Packet) (report : Report) → ufo.read d ≡ taken p → ofUfo p ≡ taken report → Vouches s d
-    told (tells w) p report e f = w
-    told (greets l) p report e f = reports-none d p report l e f
+    pub vouched-if-reported : Known s d → (p : ufo.Packet) (report : Report) → ufo.read d ≡ taken p → ofUfo p ≡ taken report → Vouches s d
+    vouched-if-reported (tells w) p report e f = w
+    vouched-if-reported (greets l) p report e f = reports-none d p report l e f
 
-    pub told-if-taken : Known s d → (room : ℕ) (t : Taking) → taking (s .kept) (s .area) d room ≡ taken t → Vouches s d
-    told-if-taken (tells w) room t e = w
-    told-if-taken (greets l) room t e = not-both (taking (s .kept) (s .area) d room) 16 t (passed-by l room) e
+    pub vouched-if-taken : Known s d → (room : ℕ) (t : Taking) → taking (s .kept) (s .area) d room ≡ taken t → Vouches s d
+    vouched-if-taken (tells w) room t e = w
+    vouched-if-taken (greets l) room t e = not-both (taking (s .kept) (s .area) d room) 16 t (passed-by l room) e
 
     arrives-known : Known s d → (room : ℕ) → Good s (delivering s (taking (s .kept) (s .area) d room))
     arrives-known (tells w) room = arrives d w room

@@ -12,13 +12,14 @@ use Rattle.reports.specs.Reports.{Report, ofUfo}
 use Rattle.missing.specs.Missing.{_to_}
 use Rattle.missing.specs.declared.Range.{Range}
 use Rattle.record.specs.Standing.{missing, standing}
+use Rattle.taking.specs.Taking.{Taking, taking}
 use Rattle.asking.proofs.Asks.{Requests, requests}
-use Rattle.session.specs.Session.{enough, State, logged, takes, asks, step}
+use Rattle.session.specs.Session.{State, logged, takes, asks, step}
 use Rattle.session.specs.Promise.{Delivered, Due, made, Exchange, Exchanges, none, more}
-use Rattle.session.proofs.Reports.{firstOf, carried}
+use Rattle.session.proofs.Genuine.{firstOf, carried}
 use Rattle.session.proofs.Line.{answers, answer-gives}
 use Rattle.session.proofs.Invariant.{Vouches, Inv, Good, chain}
-use Rattle.session.proofs.EveryStep.{taken-so, brought, told, good, along}
+use Rattle.session.proofs.EveryStep.{took-so, brought, vouched-if-taken, good, along}
 use Rattle.session.proofs.Deliveries.{delivered}
 use Rattle.session.proofs.Standing.{begins-at-next, reaches}
 
@@ -33,10 +34,11 @@ due-first s first count due =
     let f = begins-at-next (s .kept) (a .hangs) (a .lacks) in
     (f .last, f .others, f .stands ∙ ap (λ (n : ℕ). taken (missing ((n to f .last) ∷ f .others))) (sym (a .from)), rw (f .are) at (a .many))
 
--- a datagram of the line is taken where it arrives, and where it begins at or before N, what it carries has been delivered
-takes-past : (w : State) (i : Inv w) (d : List ℕ) (g : Vouches w d) (room : ℕ) → enough ≤ room → firstOf (g .report) ≤ w .kept .next .0
+-- where a datagram of the line is taken that begins at or before N, what it carries has been delivered
+takes-past : (w : State) (i : Inv w) (d : List ℕ) (g : Vouches w d) (room : ℕ) (took : Taking)
+    → taking (w .kept) (w .area) d room ≡ taken took → firstOf (g .report) ≤ w .kept .next .0
     → firstOf (g .report) + length (carried (g .report)) ≤ step w (takes d room) .kept .next .0
-takes-past w i d g room e h = rw (taken-so w i d g room e) (brought w i d g .past h)
+takes-past w i d g room took e h = rw (e, took-so w i d g room took e) (brought w i d g .past h)
 
 -- one datagram gives one report
 pub same-report : (d : List ℕ) (p q : ufo.Packet) (a b : Report) → ufo.read d ≡ taken p → ufo.read d ≡ taken q → ofUfo p ≡ taken a
@@ -46,6 +48,8 @@ same-report d p q a b e f g h =
     let k : taken a ≡ taken b = sym g ∙ ap ofUfo same ∙ h in
     cc k
 
+-- The answer begins at the number that was asked from, which is N or below by the time it arrives, and it brings that message: so once it
+-- is taken, N is past it.
 pub exchanged : (s t : State) → Inv s → Exchange s t → Good s t × (s .kept .next .0 < t .kept .next .0)
 exchanged s t i x =
     let u : State = x .u in
@@ -61,8 +65,7 @@ exchanged s t i x =
     let g₄ : Good w (step w (takes d (x .roomOut))) = good w (takes d (x .roomOut)) (x .arrives) k in
     let p = answers (u .log) (u .lent) (j .hung) (x .roomDown) d f (x .count) (x .answer) in
     let v = answer-gives (u .log) (u .lent) (j .hung) (x .roomDown) d f (x .count) (x .answer) in
-    let l = told w k d (k .line d (x .arrives)) (answerTo (u .log .ended) (logged u) f (x .count)) (p .report) (v .reads)
-    (p .vouched .reports) in
+    let l = vouched-if-taken w k d (k .line d (x .arrives)) (x .roomOut) (x .took) (x .takes-it) in
     let same : l .report ≡ p .report =
     same-report d (l .packet) (answerTo (u .log .ended) (logged u) f (x .count)) (l .report) (p .report) (l .gives .reads) (v .reads)
     (l .vouched .reports) (p .vouched .reports) in
@@ -70,7 +73,7 @@ exchanged s t i x =
     let b : firstOf (p .report) ≡ f = p .begins low in
     let c : 1 ≤ length (carried (p .report)) = p .brings low in
     let n : firstOf (p .report) ≤ w .kept .next .0 = omega (arith, a .from, g₂ .later .next, g₃ .later .next) in
-    let past = rw same at (takes-past w k d l (x .roomOut) (x .enough) (rw same n)) in
+    let past = rw same at (takes-past w k d l (x .roomOut) (x .took) (x .takes-it) (rw same n)) in
     rw (x .left) (chain g₂ (chain g₃ g₄), omega (arith, a .from))
 
 pub counted : {s t : State} {n : ℕ} → Inv s → Exchanges s n t → Good s t × (s .kept .next .0 + n ≤ t .kept .next .0)

@@ -55,7 +55,8 @@ module _ (sheet : Sheet) (rule : Patience) (elapsed : Float) (over : waitOver sh
         → ((u : State) (y : Exchanges s (suc n) u) → EachUnder sheet rule elapsed y → Inv u → last ≤ u .kept .top .0
         → last + 1 ≤ u .kept .next .0 + k → Led s last (suc n + k))
         → Led s last (n + suc k)
-    by false e go = let p = leb-false (t .kept .next .0) last e in
+    by false e go =
+        let p = leb-false (t .kept .next .0) last e in
         record { n = n; t = t; had = x; under = v; few = omega arith; inv = i; past = omega arith }
     by true e go =
         let q = leb-true (t .kept .next .0) last e in
@@ -70,12 +71,7 @@ module _ (sheet : Sheet) (rule : Patience) (elapsed : Float) (over : waitOver sh
       × ((k : ℕ) → first ≤ k → k ≤ last → Delivered t k)
   fillable s i first last others e =
       let m = reaches (s .kept) first last others e in
-      let r = leads s last (last + 1 - first) 0 s (none stop) tt i (m .top) (omega (arith, m .from)) in (
-        r .n,
-        r .t,
-        r .had,
-        r .under,
-        omega (arith, r .few),
-        λ k a b. delivered (r .t) (r .inv) k (omega (arith, m .from, i .hold .one))
-            (omega (arith, r .past)),
-      )
+      let r = leads s last (last + 1 - first) 0 s (none stop) tt i (m .top) (omega (arith, m .from)) in
+      let all : (k : ℕ) → first ≤ k → k ≤ last → Delivered (r .t) k =
+      λ k a b. delivered (r .t) (r .inv) k (omega (arith, m .from, i .hold .one)) (omega (arith, r .past)) in
+      (r .n, r .t, r .had, r .under, omega (arith, r .few), all)

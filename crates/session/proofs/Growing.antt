@@ -9,7 +9,7 @@ use lib.ListN.{length, drop, length-append, length-drop, List·getD-append}
 use lib.Seq.{take-append-le, drop-append-le}
 use Rattle.reports.specs.Reports.{Report, topOf}
 use Rattle.record.specs.declared.Record.{Record}
-use Rattle.session.proofs.Reports.{firstOf, carried, Genuine, Hold, held-known}
+use Rattle.session.proofs.Genuine.{firstOf, carried, Genuine, Hold, held-known}
 
 pub record Grows (log : List (List ℕ)) (over : Bool) (log′ : List (List ℕ)) (over′ : Bool) : Type 0 where
   pub tail : List (List ℕ)
@@ -36,8 +36,7 @@ module _ (log : List (List ℕ)) (over : Bool) (log′ : List (List ℕ)) (over�
         part = rw (
           g .same,
           drop-append-le (firstOf p - 1) log (g .tail) a,
-          take-append-le (length (carried p)) (drop (firstOf p - 1) log)
-              (g .tail) b,
+          take-append-le (length (carried p)) (drop (firstOf p - 1) log) (g .tail) b,
         ) (h .part);
         final = λ e. still-over (topOf p) (h .final e);
       }

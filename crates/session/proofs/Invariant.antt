@@ -25,7 +25,7 @@ use Rattle.record.specs.declared.Session.the-variants.{Ufo}
 use Rattle.taking.proofs.Numbered.{is-held}
 use Rattle.session.specs.Session.{State, logged, begin}
 use Rattle.session.specs.Promise.{LoginAnswer}
-use Rattle.session.proofs.Reports.{Hold}
+use Rattle.session.proofs.Genuine.{Hold}
 use Rattle.session.proofs.Logs.{Hung}
 use Rattle.session.proofs.Line.{Wrote}
 use Rattle.session.proofs.Recording.{Named}

@@ -14,7 +14,7 @@ use Rattle.log.specs.Log.{small}
 use Rattle.lend.specs.Answer.{greatest, from, goes, packed, heartbeatOf, endOf, answerTo}
 use Rattle.lend.proofs.Answering.{Most, most, one-goes}
 use Rattle.reports.specs.Reports.{Report, messages, end, ofUfo}
-use Rattle.session.proofs.Reports.{firstOf, carried, Genuine}
+use Rattle.session.proofs.Genuine.{firstOf, carried, Genuine}
 
 -- a packet that gives a genuine report
 pub record Vouched (ms : List (List ℕ)) (over : Bool) (p : ufo.Packet) (report : Report) : Type 0 where
@@ -34,8 +34,8 @@ module _ (ms : List (List ℕ)) (over : Bool) where
     genuine = record { start = omega arith; inside = omega arith; part = refl; final = λ _. (e, refl) };
   }
 
-  piece-vouched : (f c k : ℕ) → 1 ≤ f → Most ms f c k → Vouched ms over (from f k ms) (messages f (take k (drop (f - 1) ms)))
-  piece-vouched f c k a m =
+  stretch-vouched : (f c k : ℕ) → 1 ≤ f → Most ms f c k → Vouched ms over (from f k ms) (messages f (take k (drop (f - 1) ms)))
+  stretch-vouched f c k a m =
       let e = m .many in
       record {
         reports = refl;
@@ -59,7 +59,7 @@ module _ (ms : List (List ℕ)) (over : Bool) where
         let m = most ms f f₁ low c in
         record {
           report = messages f (take (greatest (goes ms f) c) (drop (f - 1) ms));
-          vouched = piece-vouched f c (greatest (goes ms f) c) f₁ m;
+          vouched = stretch-vouched f c (greatest (goes ms f) c) f₁ m;
           begins = λ _. refl;
           brings = λ _. rw (m .many) (m .above 1 c₁ (one-goes ms f f₁ low z));
         }

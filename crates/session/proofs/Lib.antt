@@ -1,5 +1,5 @@
 pub mod Stretches
-pub mod Reports
+pub mod Genuine
 pub mod Growing
 pub mod Lending
 pub mod Logs
@@ -15,6 +15,7 @@ pub mod Ending
 pub mod Serving
 pub mod Waiting
 pub mod Filling
+pub mod Telling
 pub mod Contracts
 pub mod InPlace
 pub mod Specimen

@@ -34,8 +34,8 @@ accept-answers session next room d e =
     let p = all-passed (ofAccept name next) (within room (ufo.write packet)) d (sym (accept-reply name next room ten) ∙ e) in
     let low = leb-true next 4294967295 (p .0 .1 .1 .1 .0) in
     let same : ufo.write packet ≡ d = within-taken room (ufo.write packet) d (p .1) in
-    accepted name next (ap ufo.read (sym same) ∙ laid-accept name next ten (omega arith) ∙ passed-all (ofAccept name next) (taken packet)
-    (p .0))
+    accepted name next
+    (ap ufo.read (sym same) ∙ laid-accept name next ten (omega arith) ∙ passed-all (ofAccept name next) (taken packet) (p .0))
 
 pub reject-answers : (reason room : ℕ) (d : List ℕ) → rejectReply reason room ≡ taken d → LoginAnswer d
 reject-answers reason room d e =

@@ -22,7 +22,7 @@ pub record Hung (l : Log) (s : List ℕ) : Type 0 where
   pub bytes : Bytes s
 
 -- what an entry leaves
-pub record Leaves (l : Log) (s : List ℕ) (k : Kept) : Type 0 where
+pub record LogAfter (l : Log) (s : List ℕ) (k : Kept) : Type 0 where
   pub hung : Hung (k .log) (k .bytes)
   pub grows : Grows (messagesIn l s) (l .ended) (messagesIn (k .log) (k .bytes)) (k .log .ended)
 
@@ -41,22 +41,22 @@ many-whole l s f k e =
     all-passed (growing l s ++ ((isWhole (toTheEnd f) else 4) ∷ fitting l s ms)) (taken (extended l s ms)) k e .0 .1 .1 .0
 
 module _ (l : Log) (s : List ℕ) (h : Hung l s) (k : Kept) where
-  more-left : (ms : List (List ℕ)) → Each Bytes ms → Fits l s ms × (k ≡ extended l s ms) × Grown l s ms k → Leaves l s k
+  more-left : (ms : List (List ℕ)) → Each Bytes ms → Fits l s ms × (k ≡ extended l s ms) × Grown l s ms k → LogAfter l s k
   more-left ms b a = record {
     hung = record { whole = a .2 .hung; bytes = rw (a .1) (still-bytes l s ms (h .bytes) b) };
     grows = record { tail = ms; same = a .2 .messages; shut = λ e. absurd (false≢true (sym (a .0 .goes-on) ∙ e)) };
   }
 
-  pub adding-leaves : (m : List ℕ) → Bytes m → adding l s m ≡ taken k → Leaves l s k
+  pub adding-leaves : (m : List ℕ) → Bytes m → adding l s m ≡ taken k → LogAfter l s k
   adding-leaves m b e = more-left (m ∷ []) (b, tt) (added l s k m e)
 
-  pub adding-many-leaves : (f : List ℕ) → Bytes f → addingMany l s f ≡ taken k → Leaves l s k
+  pub adding-many-leaves : (f : List ℕ) → Bytes f → addingMany l s f ≡ taken k → LogAfter l s k
   adding-many-leaves f b e =
       let a = added-many l s k f e in
       let ms : List (List ℕ) = messagesOf (toTheEnd f) in
       more-left ms (many-bytes f b (many-whole l s f k e) (small-short ms (a .0 .sizes))) a
 
-  pub declaring-leaves : declaring l s ≡ taken k → Leaves l s k
+  pub declaring-leaves : declaring l s ≡ taken k → LogAfter l s k
   declaring-leaves e =
       let d = declared l s k e in
       record {

@@ -19,9 +19,9 @@ use Rattle.record.specs.declared.Record.{Record}
 use Rattle.record.specs.declared.Session.the-variants.{Ufo}
 use Rattle.record.proofs.Hanging.{hangs-so}
 use Rattle.reports.proofs.Reports.{reports-ufo}
-use Rattle.taking.proofs.Reports.{reported, reports}
+use Rattle.taking.proofs.Took.{took-report as reported, takes-report as reports}
 use Rattle.session.specs.Session.{enough}
-use Rattle.session.proofs.Reports.{carried, Hold, Brings, brings}
+use Rattle.session.proofs.Genuine.{carried, Hold, Brings, brings}
 use Rattle.session.proofs.Line.{Wrote}
 
 -- a record of a UFO session

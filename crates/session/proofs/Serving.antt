@@ -32,9 +32,9 @@ use Rattle.record.proofs.Complete.{standing-means}
 use Rattle.session.specs.Session.{enough, State, logged, serves, takes, asks, sent, toMessage, toEach, toPacket, step, Run, stop}
 use Rattle.session.specs.Session.{then}
 use Rattle.session.specs.Promise.{Due, made, Asked, Answered, Exchange, Under}
-use Rattle.session.proofs.Line.{answered-so}
-use Rattle.session.proofs.Invariant.{Inv, Good}
-use Rattle.session.proofs.EveryStep.{hung-record, good, along}
+use Rattle.session.proofs.Line.{answered-so, answer-wrote}
+use Rattle.session.proofs.Invariant.{Vouches, Inv, Good}
+use Rattle.session.proofs.EveryStep.{hung-record, taken-so, good, along}
 use Rattle.session.proofs.Standing.{reaches}
 use Rattle.session.proofs.Fetching.{due-asks}
 
@@ -61,8 +61,8 @@ in-turn u room first count d e ms (List·Memᴰ·head {x = m} {xs = others} q) =
     let a : toMessage u room (request first count) ≡ d ∷ [] = rw e in
     let b : List·Memᴰ d (toMessage u room m) = rw (← q, a) (List·Memᴰ·head refl) in
     Memᴰ·append-left (toEach u room others) b
-in-turn u room first count d e ms (List·Memᴰ·tail {x = m} {xs = others} q) = Memᴰ·append-right (toMessage u room m)
-    (in-turn u room first count d e others q)
+in-turn u room first count d e ms (List·Memᴰ·tail {x = m} {xs = others} q) =
+    Memᴰ·append-right (toMessage u room m) (in-turn u room first count d e others q)
 
 module _ (s u : State) (i : Inv s) (first count : ℕ) (due : Due s first count) (roomUp : ℕ) (r : Run (made s due roomUp) u) where
   g : Good (made s due roomUp) u
@@ -78,8 +78,8 @@ module _ (s u : State) (i : Inv s) (first count : ℕ) (due : Due s first count)
   unfolding sent
   asked e =
       let d : List ℕ = frame (writeMessage (request first count)) in
-      let z : length d ≤ roomUp = omega (arith, length-frame (writeMessage (request first count)), length-message (request first count) fit)
-      in
+      let f = length-frame (writeMessage (request first count)) in
+      let z : length d ≤ roomUp = omega (arith, f, length-message (request first count) fit) in
       let l : reply (request first count) roomUp ≡ taken d = reply-fit (request first count) roomUp fit ∙ enough-room d roomUp z in
       let m : List·Memᴰ d (made s due roomUp .up) = rw (due .wish, l) (Memᴰ·append-right (s .up) (List·Memᴰ·head refl)) in
       record { datagram = d; room = roomUp; laid = l; sent = g .later .up d m; reads = read-one (request first count) fit }
@@ -89,8 +89,8 @@ module _ (s u : State) (i : Inv s) (first count : ℕ) (due : Due s first count)
   unfolding toPacket
   answered datagram ms room e m h =
       let d : List ℕ = ufo.write (answerTo (u .log .ended) (logged u) first count) in
-      let l : answerReply (u .log) (u .lent) first count room ≡ taken d = answered-so (u .log) (u .lent) (g .inv .hung) first count room
-      (fit .0) (fit .2) h in
+      let l : answerReply (u .log) (u .lent) first count room ≡ taken d =
+      answered-so (u .log) (u .lent) (g .inv .hung) first count room (fit .0) (fit .2) h in
       record { answer = d; laid = l; sent = rw e (Memᴰ·append-right (u .down) (in-turn u room first count d l ms m)) }
 
 -- where the line carries the request and its answer, the exchange is had
@@ -101,7 +101,10 @@ exchange s i first count due =
     let a : Asked u first count = asked s u i first count due 1472 stop (omega arith) in
     let b : Answered u (a .datagram) first count 1472 =
     answered s u i first count due 1472 stop (a .datagram) (request first count ∷ []) 1472 (a .reads) (List·Memᴰ·head refl) (omega arith) in
-    let w : State = step u (serves (a .datagram) 1472) in (
+    let w : State = step u (serves (a .datagram) 1472) in
+    let j : Inv u = good s (asks (due .sheet) (due .rule) (due .elapsed) 1472) tt i .inv in
+    let k : Inv w = good u (serves (a .datagram) 1472) (a .sent) j .inv in
+    let v : Vouches w (b .answer) = answer-wrote (u .log) (u .lent) (j .hung) 1472 (b .answer) first count (b .laid) in (
       step w (takes (b .answer) enough),
       record {
         first = first;
@@ -117,7 +120,8 @@ exchange s i first count due =
         later = then stop (serves (a .datagram) 1472) (a .sent);
         arrives = b .sent;
         roomOut = enough;
-        enough = omega arith;
+        took = _;
+        takes-it = taken-so w k (b .answer) v enough (omega arith);
         left = refl;
       },
       (refl, refl, refl),

@@ -1,5 +1,5 @@
 -- A run, worked out byte by byte, so that no claim is empty. A login is accepted, which is not for the record. Three messages; the third
--- comes first and is held, the first comes twice, the second is lost; the end is heard with one missing; one request and its answer deliver
+-- comes first and is held, the first comes twice, the second is lost; the end is taken with one missing; one request and its answer deliver
 -- the second and release the third, and the record is complete. The area is any that has 32 slots.
 -- Assumes nothing.
 use Prim.Native.Nat.{ℕ, _≤_}
@@ -42,7 +42,7 @@ use Rattle.record.specs.Standing.{complete, missing, standing}
 use Rattle.record.specs.declared.Record.{Record}
 use Rattle.record.specs.declared.Session.the-variants.{Ufo}
 use Rattle.reports.specs.Reports.{reportOf}
-use Rattle.taking.specs.Taking.{reporting, taking}
+use Rattle.taking.specs.Taking.{Taking, reporting, taking}
 use Rattle.taking.proofs.Kept.{taking-sound}
 use Rattle.asking.specs.Asking.{request as wanted, requestOf, wish, asking}
 use Rattle.session.specs.Session.{enough, State, logged, begin, addsMany, declares, ends, answers, accepts, serves, takes, sent}
@@ -118,6 +118,9 @@ keeping next top ended asked held = record {
   held = held;
 }
 
+abbrev took : List (List ℕ) → Record → List ℕ → Taking
+took delivered after area = record { delivered = delivered; after = after; area = area }
+
 -- the states, once the log has its messages
 abbrev state : Bool → Record → List ℕ → List (List ℕ) → List (List ℕ) → List (List ℕ) → State
 state ended kept area deliveries down up = record {
@@ -136,7 +139,7 @@ sent-all = welcome ∷ one ∷ two ∷ three ∷ []
 abbrev with-end : List (List ℕ)
 with-end = welcome ∷ one ∷ two ∷ three ∷ over ∷ []
 
--- the end is heard, one message is delivered, and one held
+-- the end is taken, one message is delivered, and one held
 abbrev pub s : List ℕ → State
 s area = state true (keeping 2 3 true 0 8) (stored area) (hi ∷ []) with-end []
 
@@ -185,52 +188,58 @@ module _ (area : List ℕ) (slots : areaSize ≤ length area) where
   unfolding worked-out
   of-welcome = rw (none-sound area slots)
 
-  of-three : taking (fresh (Ufo session)) area three enough ≡ taken
-      (record { delivered = []; after = keeping 1 3 false 0 8; area = stored area })
+  of-three : taking (fresh (Ufo session)) area three enough ≡ taken (took [] (keeping 1 3 false 0 8) (stored area))
   unfolding worked-out
   of-three = rw (none-sound area slots, le-leb areaSize (length area) slots)
 
   stored-sound : sound 8 (stored area) ≡ true
   stored-sound = taking-sound (fresh (Ufo session)) area three enough _ of-three
 
-  of-one : taking (keeping 1 3 false 0 8) (stored area) one enough ≡ taken
-      (record { delivered = hi ∷ []; after = keeping 2 3 false 0 8; area = stored area })
+  of-one : taking (keeping 1 3 false 0 8) (stored area) one enough ≡ taken (took (hi ∷ []) (keeping 2 3 false 0 8) (stored area))
   unfolding worked-out
   of-one = rw stored-sound
 
-  of-one-again : taking (keeping 2 3 false 0 8) (stored area) one enough ≡ taken
-      (record { delivered = []; after = keeping 2 3 false 0 8; area = stored area })
+  of-one-again : taking (keeping 2 3 false 0 8) (stored area) one enough ≡ taken (took [] (keeping 2 3 false 0 8) (stored area))
   unfolding worked-out
   of-one-again = rw stored-sound
 
-  of-over : taking (keeping 2 3 false 0 8) (stored area) over enough ≡ taken
-      (record { delivered = []; after = keeping 2 3 true 0 8; area = stored area })
+  of-over : taking (keeping 2 3 false 0 8) (stored area) over enough ≡ taken (took [] (keeping 2 3 true 0 8) (stored area))
   unfolding worked-out
   of-over = rw stored-sound
 
-  of-two : taking (keeping 2 3 true 2 8) (stored area) two enough ≡ taken
-      (record { delivered = [] ∷ ok ∷ []; after = keeping 4 3 true 2 0; area = stored area })
+  of-two : taking (keeping 2 3 true 2 8) (stored area) two enough ≡ taken (took ([] ∷ ok ∷ []) (keeping 4 3 true 2 0) (stored area))
   unfolding worked-out
   of-two = rw (stored-sound, stored-message area ok 3 (omega arith) slots)
 
-  -- the steps
+  -- the states on the way: all is sent; the third has come; the first has; the log has ended
   begun : State
   begun = begin lent area (fresh (Ufo session))
 
   greeted : State
   greeted = step begun (accepts session 1 1472)
 
+  abbrev all-sent : State
+  all-sent = state false (fresh (Ufo session)) area [] sent-all []
+
+  abbrev third-held : State
+  third-held = state false (keeping 1 3 false 0 8) (stored area) [] sent-all []
+
+  abbrev first-there : State
+  first-there = state false (keeping 2 3 false 0 8) (stored area) (hi ∷ []) sent-all []
+
+  abbrev ended : State
+  ended = state true (keeping 2 3 false 0 8) (stored area) (hi ∷ []) with-end []
+
+  -- and the steps
   not-for-it : step greeted (takes welcome enough) ≡ greeted
   unfolding begun greeted
   not-for-it = ap (delivering greeted) of-welcome
 
-  logs-three : step (step (step (step greeted (addsMany blocks)) (answers 1 1 1472)) (answers 2 1 1472)) (answers 3 1 1472) ≡ state false
-      (fresh (Ufo session)) area [] sent-all []
+  sends-three : step (step (step (step greeted (addsMany blocks)) (answers 1 1 1472)) (answers 2 1 1472)) (answers 3 1 1472) ≡ all-sent
   unfolding worked-out begun greeted
-  logs-three = refl
+  sends-three = refl
 
-  ends-it : step (step (state false (keeping 2 3 false 0 8) (stored area) (hi ∷ []) sent-all []) declares) (ends 1472) ≡ state true
-      (keeping 2 3 false 0 8) (stored area) (hi ∷ []) with-end []
+  ends-it : step (step first-there declares) (ends 1472) ≡ ended
   unfolding worked-out
   ends-it = refl
 
@@ -242,24 +251,21 @@ module _ (area : List ℕ) (slots : areaSize ≤ length area) where
   unfolding worked-out begun greeted
   r₁ = on (then (then stop (accepts session 1 1472) tt) (takes welcome enough) (here refl)) not-for-it
 
-  r₂ : Run begun (state false (fresh (Ufo session)) area [] sent-all [])
+  r₂ : Run begun all-sent
   r₂ =
-      on (then (then (then (then r₁ (addsMany blocks) (bytes-so blocks refl)) (answers 1 1 1472) tt) (answers 2 1 1472) tt)
-      (answers 3 1 1472) tt) logs-three
+      let added = then r₁ (addsMany blocks) (bytes-so blocks refl) in
+      on (then (then (then added (answers 1 1 1472) tt) (answers 2 1 1472) tt) (answers 3 1 1472) tt) sends-three
 
-  r₃ : Run begun (state false (keeping 2 3 false 0 8) (stored area) (hi ∷ []) sent-all [])
-  r₃ =
-      let first : Run begun (state false (keeping 1 3 false 0 8) (stored area) [] sent-all []) =
-      on (then r₂ (takes three enough) (there (there (there (here refl)))))
-      (ap (delivering (state false (fresh (Ufo session)) area [] sent-all [])) of-three) in
-      let second : Run begun (state false (keeping 2 3 false 0 8) (stored area) (hi ∷ []) sent-all []) =
-      on (then first (takes one enough) (there (here refl)))
-      (ap (delivering (state false (keeping 1 3 false 0 8) (stored area) [] sent-all [])) of-one) in
-      on (then second (takes one enough) (there (here refl)))
-      (ap (delivering (state false (keeping 2 3 false 0 8) (stored area) (hi ∷ []) sent-all [])) of-one-again)
+  r₃ : Run begun third-held
+  r₃ = on (then r₂ (takes three enough) (there (there (there (here refl))))) (ap (delivering all-sent) of-three)
 
-  r₄ : Run begun (state true (keeping 2 3 false 0 8) (stored area) (hi ∷ []) with-end [])
-  r₄ = on (then (then r₃ declares tt) (ends 1472) tt) ends-it
+  r₄ : Run begun first-there
+  r₄ =
+      let once = on (then r₃ (takes one enough) (there (here refl))) (ap (delivering third-held) of-one) in
+      on (then once (takes one enough) (there (here refl))) (ap (delivering first-there) of-one-again)
+
+  r₅ : Run begun ended
+  r₅ = on (then (then r₄ declares tt) (ends 1472) tt) ends-it
 
   pub reached : Reached (s area)
   unfolding worked-out begun
@@ -271,9 +277,7 @@ module _ (area : List ℕ) (slots : areaSize ≤ length area) where
     session = session;
     kept = fresh (Ufo session);
     opened = refl;
-    run =
-        on (then r₄ (takes over enough) (there (there (there (there (here refl))))))
-        (ap (delivering (state true (keeping 2 3 false 0 8) (stored area) (hi ∷ []) with-end [])) of-over);
+    run = on (then r₅ (takes over enough) (there (there (there (there (here refl)))))) (ap (delivering ended) of-over);
   }
 
   -- message 2 is missing, and message 3 is held
@@ -297,7 +301,8 @@ module _ (area : List ℕ) (slots : areaSize ≤ length area) where
     later = subst (λ (x : State). Run (asked area) x) (answered-so area) (then stop (serves asking-two 1472) (here refl));
     arrives = there (there (here refl));
     roomOut = enough;
-    enough = omega arith;
+    took = took ([] ∷ ok ∷ []) (keeping 4 3 true 2 0) (stored area);
+    takes-it = of-two;
     left = sym (ap (delivering (answered area)) of-two);
   }
 

@@ -20,7 +20,7 @@ use Rattle.record.specs.Standing.{complete, missing, missingOf, standing}
 use Rattle.record.specs.declared.Record.{Record}
 use Rattle.record.proofs.Complete.{missing-if, complete-if, standing-means}
 use Rattle.session.specs.Session.{State, logged}
-use Rattle.session.specs.Promise.{Names, Outcome, whole, lacks}
+use Rattle.session.specs.Promise.{Names, Outcome, whole, lacks, Tells}
 use Rattle.session.proofs.Invariant.{Inv}
 use Rattle.session.proofs.EveryStep.{hung-record}
 use Rattle.session.proofs.Deliveries.{length-deliveries}
@@ -74,7 +74,7 @@ module _ (s : State) (i : Inv s) where
   pub complete-so : standing (s .kept) ≡ taken complete → (s .log .ended ≡ true) × (s .deliveries ≡ logged s)
   complete-so e = let t = standing-means (s .kept) complete e in (i .hold .final (t .0) .0, all-there (t .0) (t .1))
 
-  -- the end was heard: all is there, or exactly what was not delivered and is not held is missing
+  -- the end was taken: all is there, or exactly what was not delivered and is not held is missing
   pub outcome : s .kept .ended ≡ true → Outcome s
   outcome e = by (leb (s .kept .next .0) (s .kept .top .0)) refl where
     by : (b : Bool) → leb (s .kept .next .0) (s .kept .top .0) ≡ b → Outcome s
@@ -94,3 +94,8 @@ module _ (s : State) (i : Inv s) where
         let h = leb-false (s .kept .next .0) (s .kept .top .0) q in
         let n : s .kept .next .0 ≡ s .kept .top .0 + 1 = omega (arith, i .hold .near) in
         whole (complete-if (s .kept) (hung-record s i) e n) (all-there e n)
+
+-- and so it is told
+pub outcome-told : (s : State) → Outcome s → Tells s (standing (s .kept))
+outcome-told s (whole e all) = rw e all
+outcome-told s (lacks ranges e exactly) = rw e exactly

@@ -41,8 +41,8 @@ counts (fin false m e) y l h k = lt→ltb 0 m (first-pos m (up e) (omega (arith,
 lasts : (w : Float) → T (positive w) → T (le w (whole 60000)) → (withinDay w ≡ true) × (le w w ≡ true)
 unfolding round
 lasts w p h =
-    let zero : T (le (whole 0) w) = le-of-values (whole 0) w 0 1 (num w) (den w) (lit< tt) (den-pos w) (refl, refl) (own-value w p)
-    (omega arith) in
+    let zero : T (le (whole 0) w) =
+    le-of-values (whole 0) w 0 1 (num w) (den w) (lit< tt) (den-pos w) (refl, refl) (own-value w p) (omega arith) in
     let day : T (le w (whole 86400000)) = le-trans-positive w (whole 60000) (whole 86400000) p tt tt h (unfold le in tt) in
     (is-true (withinDay w) (and-i (le (whole 0) w) (le w (whole 86400000)) zero day), is-true (le w w) (cross→le w w p p (omega arith)))
 

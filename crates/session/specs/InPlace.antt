@@ -39,13 +39,15 @@ LeavesLent {M} 𝓤 T says given left =
     → left κs x (atExit T κs a w)
 
 module _ {M : Type 1} (𝓤 : URA M) (H : Heap 𝓤) (A : Atoms 𝓤) (mem : Memory → SProp 𝓤) (run : Routine → Fun 𝓤) where
-  -- the record that lies there in the end is the step's
+  -- The record that lies there in the end is the step's. How it stands is told by `standing_of` and `missing_range`, which take a record by
+  -- value: that is `ByContract`'s `standing`, of a record that lies somewhere as of any other.
   pub record ByContractInPlace (s : State) : Type 1 where
     pub takeLent : (datagram : List ℕ) (room : ℕ) → Allowed s (takes datagram room)
         → LeavesLent 𝓤 take-lent.ended (take-lent.clauses 𝓤 H A mem run)
-        (λ κs a. (now (a .0) ≡ s .kept) × (now (a .1 .0) ≡ s .area) × (now (a .1 .1 .0) ≡ datagram) × (length (now (a .1 .1 .1 .0)) ≡ room))
-        (λ κs x e. withTaken s x (now (e .1 .0)) (now (e .1 .1 .1 .0)) (now (e .0)) ≡ step s (takes datagram room))
+        (λ _ (kept, (area, (packet, (out, _)))).
+        (now kept ≡ s .kept) × (now area ≡ s .area) × (now packet ≡ datagram) × (length (now out) ≡ room))
+        (λ _ x (kept, (area, (_, (out, _)))). withTaken s x (now area) (now out) (now kept) ≡ step s (takes datagram room))
     pub askLent : (sheet : Sheet) (rule : Patience) (elapsed : Float) (room : ℕ)
         → LeavesLent 𝓤 ask-lent.ended (ask-lent.clauses 𝓤 H A mem run)
-        (λ κs a. (now (a .0) ≡ s .kept) × (a .1 .0 ≡ sheet) × (a .1 .1 .0 ≡ rule) × (a .1 .1 .1 .0 ≡ elapsed))
-        (λ κs x e. LeavesAsked room x (λ said. saying s (now (e .0)) said ≡ step s (asks sheet rule elapsed room)))
+        (λ _ (kept, (sheet′, (rule′, (elapsed′, _)))). (now kept ≡ s .kept) × (sheet′ ≡ sheet) × (rule′ ≡ rule) × (elapsed′ ≡ elapsed))
+        (λ _ x (kept, _). LeavesAsked room x (λ said. saying s (now kept) said ≡ step s (asks sheet rule elapsed room)))

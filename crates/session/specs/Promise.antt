@@ -1,4 +1,4 @@
--- The words of what is promised: delivered, the outcome at the end, an exchange.
+-- The words of what is promised: delivered, the outcome at the end and what is told of it, an exchange.
 -- Assumes nothing.
 use Prim.Native.Nat.{ℕ, suc, _+_, _-_, _≤_, _<_}
 use mathlib.Core.Path.{_≡_}
@@ -7,7 +7,7 @@ use mathlib.Core.List.{List, [], _∷_}
 use mathlib.Core.Bool.{Bool, true, false}
 use lib.Ieee.{Float}
 use lib.ListN.{length, take, getD}
-use Rattle.wire.specs.Checks.{refused, taken}
+use Rattle.wire.specs.Checks.{Verdict, refused, taken}
 use Rattle.blocks.specs.Blocks.{frames}
 use Rattle.ufo.specs.Down as ufo
 use Rattle.ufo_up.specs.Up.{request, readUp}
@@ -21,11 +21,16 @@ use Rattle.held.specs.Hanging.{sound}
 use Rattle.missing.specs.Missing.{isHeld}
 use Rattle.missing.specs.declared.Range.{Range}
 use Rattle.record.specs.Record as recording
-use Rattle.record.specs.Standing.{complete, missing, standing}
+use Rattle.record.specs.Standing as standings
+use Rattle.record.specs.Standing.{complete, ongoing, missing, standing}
 use Rattle.taking.specs.Taking.{Taking, taking}
 use Rattle.asking.specs.Asking.{request as wanted, asking}
 use Rattle.record.specs.declared.Record.{Record}
-use Rattle.session.specs.Session.{_among_, enough, State, logged, serves, takes, asks, step, Run}
+use Rattle.session.specs.Session.{_among_, State, logged, begin, serves, takes, asks, step, Run, Reached}
+
+-- where a record was opened, a run begins with it, in any lent bytes and with any area of 32 slots
+abbrev pub Begins : (lent area : List ℕ) → Verdict Record → Type 0
+Begins lent area answer = (kept : Record) → answer ≡ taken kept → Reached (begin lent area kept)
 
 -- number n is held
 abbrev pub holds : State → ℕ → Bool
@@ -66,13 +71,21 @@ abbrev pub Names : List Range → ℕ → Type 0
 Names [] n = ⊥
 Names (r ∷ rs) n = ((r .first .0 ≤ n) × (n ≤ r .last .0)) ⊎ Names rs n
 
+-- they name exactly what of the log was not delivered and is not held
+abbrev pub Lacks : State → List Range → Type 0
+Lacks s ranges = (n : ℕ) → Names ranges n ↔ ((length (s .deliveries) < n) × (n ≤ length (logged s)) × (holds s n ≡ false))
+
 -- how the record stands: complete, with the whole log; or something is missing, which is exactly what was not delivered and is not held
 pub data Outcome (s : State) : Type 0 where
   whole : standing (s .kept) ≡ taken complete → s .deliveries ≡ logged s → Outcome s
-  lacks : (ranges : List Range)
-      → standing (s .kept) ≡ taken (missing ranges)
-      → ((n : ℕ) → Names ranges n ↔ ((length (s .deliveries) < n) × (n ≤ length (logged s)) × (holds s n ≡ false)))
-      → Outcome s
+  lacks : (ranges : List Range) → standing (s .kept) ≡ taken (missing ranges) → Lacks s ranges → Outcome s
+
+-- what a program is told of such a record: complete, with the whole log; or that these ranges are missing; and nothing else
+abbrev pub Tells : State → Verdict standings.State → Type 0
+Tells s (refused n) = ⊥
+Tells s (taken complete) = s .deliveries ≡ logged s
+Tells s (taken ongoing) = ⊥
+Tells s (taken (missing ranges)) = Lacks s ranges
 
 -- a request for these numbers is due
 pub record Due (s : State) (first count : ℕ) : Type 0 where
@@ -101,7 +114,8 @@ pub record Answered (u : State) (datagram : List ℕ) (first count room : ℕ) :
   pub sent : answer among step u (serves datagram room) .down
 
 -- A request is due in s and is made. Later, in u, the server answers its numbers by a datagram. Later still, in w, that
--- datagram arrives and is taken, which leaves t. Whatever else may happen in between.
+-- datagram arrives and is taken, with whatever room, which leaves t. Whatever else may happen in between. `Claims.exchange` shows that it
+-- can be had.
 pub record Exchange (s t : State) : Type 0 where
   pub first : ℕ
   pub count : ℕ
@@ -116,10 +130,12 @@ pub record Exchange (s t : State) : Type 0 where
   pub later : Run u w
   pub arrives : datagram among w .down
   pub roomOut : ℕ
-  pub enough : enough ≤ roomOut
+  pub took : Taking
+  pub takes-it : taking (w .kept) (w .area) datagram roomOut ≡ taken took
   pub left : t ≡ step w (takes datagram roomOut)
 
--- so many exchanges one after another, and whatever else may happen before, between and after them
+-- so many exchanges one after another, and whatever else may happen before, between and after them; `Claims.fillable` shows that they can
+-- be had
 pub data Exchanges (s : State) : ℕ → State → Type 0 where
   none : {t : State} → Run s t → Exchanges s 0 t
   more : {n : ℕ} {t u w : State} → Exchanges s n t → Exchange t u → Run u w → Exchanges s (suc n) w

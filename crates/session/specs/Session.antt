@@ -30,7 +30,7 @@ infix 40 _among_
 abbrev pub _among_ : {A : Type 0} → A → List A → Type 0
 x among xs = List·Memᴰ x xs
 
--- room for a packet's messages and all that can be held: 1,472 bytes and 31 slots of 1,472
+-- room for a packet's messages and all that can be held: 1,472 bytes and 31 slots of 1,472; `Claims.never-refused` shows that it is enough
 abbrev pub enough : ℕ
 enough = 47104
 
@@ -162,6 +162,7 @@ wishing s room (taken nothing) = s
 wishing s room (taken wait) = s
 wishing s room (taken (wanted first count after)) = saying s after (sent (reply (request first count) room))
 
+-- one step; `Claims.by-contract` shows that it is what the code does, whatever outcome a contract allows
 abbrev pub step : State → Act → State
 step s (adds message) = logging s (adding (s .log) (s .lent) message)
 step s (addsMany blocks) = logging s (addingMany (s .log) (s .lent) blocks)
@@ -181,7 +182,8 @@ pub data Run (s : State) : State → Type 0 where
   stop : Run s s
   then : {t : State} → Run s t → (act : Act) → Allowed t act → Run s (step t act)
 
--- s is reached from an empty log in lent bytes, a record that was just opened for a session, and any area of 32 slots
+-- s is reached from an empty log in lent bytes, a record that was just opened for a session, and any area of 32 slots; `Claims.opened`
+-- shows that so a program begins, and `Claims.happens` is a run worked out byte by byte
 pub record Reached (s : State) : Type 0 where
   pub lent : List ℕ
   pub bytes : Bytes lent

@@ -2,6 +2,7 @@ pub mod Linefeed
 pub mod Lines
 pub mod Faults
 pub mod Together
+pub mod Types
 pub mod Sorting
 pub mod Fields
 pub mod SpeltAnew

@@ -1,20 +1,21 @@
 -- Where no linefeed is: in opaque bytes by the definition, in texts and numbers by their alphabet.
 -- Assumes nothing.
-use Prim.Native.Nat.{ℕ, zero, suc, _+_, _^_, _≤_, _<_}
+use Prim.Native.Nat.{ℕ, zero, suc, _+_, _≤_, _<_}
 use mathlib.Core.Path.{_≡_, refl, sym}
 use mathlib.Core.List.{List, [], _∷_, _++_}
-use mathlib.Core.Bool.{Bool, true, not, _&&_, _||_, and-true, and-assoc}
+use mathlib.Core.Bool.{Bool, true, not, _&&_, and-true, and-assoc}
 use native.Mathlib.Numerals.{add-one}
 use native.Mathlib.Omega.{arith}
-use lib.Dec.{eqb, leb}
+use lib.Dec.{eqb}
 use lib.ListN.{length, getD, drop, drop-of-length-le}
 use lib.Seq.{drop-cons}
-use borrow.Author.Tests.{ne-eqb, eqb-false, not-true}
+use borrow.Author.Tests.{ne-eqb, eqb-true, eqb-false, not-true}
 use Rattle.text.specs.Text.{textThenSpaces, spacesThenText}
-use Rattle.decimal.specs.Decimal.{character, places, written}
+use Rattle.decimal.specs.Decimal.{digit, digits, trimmed, wellFormed}
 use Rattle.soup.specs.Read.{unbroken}
 use Rattle.wire.proofs.Tests.{by-test, and-left, and-right}
 use Rattle.text.proofs.Textual.{padded-right, padded-left}
+use Rattle.decimal.proofs.Digits.{digit-low}
 
 -- no byte is a linefeed
 abbrev pub No-linefeed : List ℕ → Type 0
@@ -56,19 +57,20 @@ module _ (s : List ℕ) where
 
 -- ---- numbers
 
-character-high : (n k : ℕ) → 32 ≤ character n k
-unfolding character
-character-high n k = by-test (eqb k 0 || leb (10 ^ k) n) (λ t. rw t (omega arith)) (λ t. rw t (omega arith))
+digits-unbroken : (s : List ℕ) → digits s ≡ true → unbroken s ≡ true
+unfolding digits unbroken
+digits-unbroken [] d = refl
+digits-unbroken (b ∷ s) d =
+    more b s (λ e. omega (arith, digit-low b (and-left (digit b) (digits s) d))) (digits-unbroken s (and-right (digit b) (digits s) d))
 
-places-unbroken : (k n : ℕ) → unbroken (places k n) ≡ true
-unfolding places unbroken
-places-unbroken zero n = refl
-places-unbroken (suc k) n =
-    more (character n k) (places k n) (λ e. omega (arith, character-high n k)) (places-unbroken k n)
-
-pub written-unbroken : (n : ℕ) → unbroken (written n) ≡ true
-unfolding written
-written-unbroken n = places-unbroken 20 n
+-- however a number is spelt
+pub formed-unbroken : (s : List ℕ) → wellFormed s ≡ true → unbroken s ≡ true
+unfolding wellFormed trimmed unbroken
+formed-unbroken [] f = refl
+formed-unbroken (b ∷ s) f =
+    by-test (eqb b 32)
+    (λ t. let q = eqb-true b 32 t in more b s (λ e. omega arith) (formed-unbroken s (rw t at f)))
+    (λ t. digits-unbroken (b ∷ s) (rw t at f))
 
 -- ---- the search for one, over every byte: w says whether none was seen before place i
 

@@ -2,7 +2,7 @@
 -- Assumes nothing.
 use Prim.Native.Nat.{ℕ, suc, _+_, _-_, _≤_}
 use mathlib.Core.Path.{_≡_, refl, sym, ap, _∙_}
-use mathlib.Core.List.{List, [], _∷_, _++_, append-assoc}
+use mathlib.Core.List.{List, [], _∷_, _++_, append-assoc, append-nil}
 use mathlib.Core.Bool.{true, false, not}
 use native.Mathlib.Omega.{arith}
 use lib.Dec.{eqb}
@@ -62,10 +62,30 @@ pub fields-join : (i m n : ℕ) (d : List ℕ) → field i (m + n) d ≡ field i
 fields-join i m n d = take-add m n (drop i d) ∙ ap (λ (t : List ℕ). field i m d ++ take n t) (drop-drop m i d)
 
 -- a field of a line, between what stands before it and what stands behind it
-pub field-in : (kind m n : ℕ) (s a b c : List ℕ) → s ≡ a ++ (b ++ c) → length a ≡ m → length b ≡ n → field (suc m) n (line kind s) ≡ b
+field-in : (kind m n : ℕ) (s a b c : List ℕ) → s ≡ a ++ (b ++ c) → length a ≡ m → length b ≡ n → field (suc m) n (line kind s) ≡ b
 field-in kind m n s a b c e A B =
     rw (e, append-assoc a (b ++ c) (10 ∷ []), append-assoc b c (10 ∷ []), drop-at a (b ++ (c ++ 10 ∷ [])) m A)
     (take-at b (c ++ 10 ∷ []) n B)
+
+-- the fields of an `A` and of an `L`, found in its line, whatever they are
+pub accept-found : (session number : List ℕ) → length session ≡ 10 → length number ≡ 20 → let d = line 65 (session ++ number) in
+    (field 1 10 d ≡ session) × (field 11 20 d ≡ number)
+accept-found session number s n =
+    let fields = session ++ number in
+    (field-in 65 0 10 fields [] session number refl refl s, field-in 65 10 20 fields session number [] (rw append-nil) s n)
+
+pub login-found : (user password session number : List ℕ) → length user ≡ 6 → length password ≡ 10 → length session ≡ 10
+    → length number ≡ 20 → let d = line 76 (user ++ password ++ session ++ number) in
+    (field 1 6 d ≡ user) × (field 7 10 d ≡ password) × (field 17 10 d ≡ session) × (field 27 20 d ≡ number)
+login-found user password session number u p s n =
+    let fields = user ++ password ++ session ++ number in
+    let two = user ++ password in
+    let three = user ++ password ++ session in (
+      field-in 76 0 6 fields [] user (password ++ (session ++ number)) (simp append-assoc) refl u,
+      field-in 76 6 10 fields user password (session ++ number) (simp append-assoc) u p,
+      field-in 76 16 10 fields two session number (append-assoc two session number) (simp length-append (omega arith)) s,
+      field-in 76 26 20 fields three number [] (rw append-nil) (simp length-append (omega arith)) n,
+    )
 
 pub last-empty : (d : List ℕ) → length d ≡ 0 → eqb (last d) 10 ≡ false
 last-empty [] e = refl

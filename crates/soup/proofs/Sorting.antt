@@ -8,7 +8,7 @@ use lib.ListN.{length, getD, drop, length-drop}
 use lib.Seq.{length-take-le}
 use borrow.Author.Tests.{le-leb, lt-leb}
 use Rattle.wire.specs.Checks.{refused, taken, checked}
-use Rattle.soup.specs.Packet.{Packet}
+use Rattle.soup.specs.Packet.{Packet, lineLimit}
 use Rattle.soup.specs.Read.{payload, lineChecks, sizedChecks, byType, read}
 use Rattle.soup.specs.Reading.{packetOf, readingOf, fault, orRefused}
 use Rattle.soup.specs.declared.reading.Reading.{Reading}
@@ -19,13 +19,13 @@ module _ (d : List ℕ) where
   unfolding read
   empty h = rw (lt-leb 1 (length d) (omega arith))
 
-  pub overlong : 4098 < length d → read d ≡ refused 2
+  pub overlong : lineLimit < length d → read d ≡ refused 2
   unfolding read
-  overlong h = rw (le-leb 1 (length d) (omega arith), lt-leb (length d) 4098 h)
+  overlong h = rw (le-leb 1 (length d) (omega arith), lt-leb (length d) lineLimit h)
 
-  pub by-type : (kind : ℕ) → (length d ≡ 0 → ⊥) → length d ≤ 4098 → getD d 0 0 ≡ kind → read d ≡ byType kind d
+  pub by-type : (kind : ℕ) → (length d ≡ 0 → ⊥) → length d ≤ lineLimit → getD d 0 0 ≡ kind → read d ≡ byType kind d
   unfolding read
-  by-type kind n h k = rw (le-leb 1 (length d) (omega arith), le-leb (length d) 4098 h, k)
+  by-type kind n h k = rw (le-leb 1 (length d) (omega arith), le-leb (length d) lineLimit h, k)
 
   -- what the code answers for a payload, under any of the three types
   pub carried-as : (packet : List ℕ → Packet) (view : ℕ → Reading) → ((s : List ℕ) → packetOf (packet s) ≡ view (length s))

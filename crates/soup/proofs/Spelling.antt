@@ -20,8 +20,8 @@ use Rattle.soup.proofs.Exact.{written-is-read, read-is-written}
 -- ---- what we write
 
 -- a number in its line
-spelt-there : (before : List ℕ) (number place : ℕ) → length before ≡ place → number < 2 ^ 64 → let d = before ++ written number
-    ++ 10 ∷ [] in (speltAnew d place ≡ d) × (leadingZero (field place 20 d) ≡ false)
+spelt-there : (before : List ℕ) (number place : ℕ) → length before ≡ place → number < 2 ^ 64
+    → let d = before ++ written number ++ 10 ∷ [] in (speltAnew d place ≡ d) × (leadingZero (field place 20 d) ≡ false)
 spelt-there before number place b h =
     let w = written number in
     let r = read-written number h in

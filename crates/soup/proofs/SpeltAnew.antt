@@ -26,8 +26,7 @@ module _ (before number behind : List ℕ) (place : ℕ) (b : length before ≡ 
         found,
         drop-at (before ++ number) behind (place + 20) past,
         append-assoc before number behind,
-        take-at before (number ++ behind)
-            place b,
+        take-at before (number ++ behind) place b,
       )
 
 -- a packet of another type than A and L

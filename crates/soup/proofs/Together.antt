@@ -66,15 +66,16 @@ accept-together session number l =
       over-nought v e = ne-eqb v 0 (λ z. omega (arith, leb-false v (2 ^ 64 - 1) e))
 
 pub login-together : (user password session number : List ℕ) → length number ≡ 20
-    → loginOf user password session number ≡ (if textThenSpaces user && textThenSpaces password && spacesThenText session then loginBy user
-    password session (numberOf number) else refused 5)
+    → loginOf user password session number
+    ≡ (if textThenSpaces user && textThenSpaces password && spacesThenText session then loginBy user password session (numberOf number)
+    else refused 5)
 unfolding loginOf
 login-together user password session number l =
     let u = textThenSpaces user in
     let p = textThenSpaces password in
     let s = spacesThenText session in
-    let rest = (wellFormed number else 5) ∷ (not (blank user) else 6) ∷ (not (blank number) else 6)
-    ∷ (valueOf number atMost 2 ^ 64 - 1 else 7) ∷ [] in
+    let bound = (valueOf number atMost 2 ^ 64 - 1 else 7) in
+    let rest = (wellFormed number else 5) ∷ (not (blank user) else 6) ∷ (not (blank number) else 6) ∷ bound ∷ [] in
     let v = taken (login user password session (valueOf number)) in
     checked-both 5 u p ((s else 5) ∷ rest) v
     ∙ checked-both 5 (u && p) s rest v

@@ -45,7 +45,11 @@ write (unsequenced message) = line 85 message
 write clientHeartbeat = line 82 []
 write logout = line 79 []
 
--- any bytes but a linefeed, up to 4,096
+-- the longest line, with its linefeed: a house limit
+abbrev pub lineLimit : ℕ
+lineLimit = 4098
+
+-- any bytes but a linefeed; 4,096 of them fill the longest line
 abbrev pub Payload : List ℕ → Type 0
 Payload s = Bytes s × (length s ≤ 4096) × ((i : ℕ) → getD s i 0 ≡ 10 → ⊥)
 
@@ -56,7 +60,7 @@ PaddedRight n s = (length s ≡ n) × (textThenSpaces s ≡ true)
 abbrev pub PaddedLeft : ℕ → List ℕ → Type 0
 PaddedLeft n s = (length s ≡ n) × (spacesThenText s ≡ true)
 
--- the lawful packets
+-- the lawful packets; Exact shows that the reader takes these, written, and no others
 unfoldable pub Fit : Packet → Type 0
 Fit (debug text) = Payload text
 Fit (accept session number) = PaddedLeft 10 session × (blank session ≡ false) × (1 ≤ number) × (number < 2 ^ 64)

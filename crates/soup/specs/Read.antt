@@ -8,7 +8,7 @@ use Rattle.wire.specs.Checks.{if_then_else_, _is_, _atMost_, Verdict, refused, 
 use Rattle.text.specs.Text.{blank, textThenSpaces, spacesThenText}
 use Rattle.decimal.specs.Decimal.{wellFormed, valueOf}
 use Rattle.soup.specs.Packet.{Packet, debug, accept, reject, sequenced, serverHeartbeat, endOfSession, login, unsequenced}
-use Rattle.soup.specs.Packet.{clientHeartbeat, logout}
+use Rattle.soup.specs.Packet.{clientHeartbeat, logout, lineLimit}
 
 -- the last byte, and those before it
 abbrev pub last : List ℕ → ℕ
@@ -33,7 +33,7 @@ unbroken (b ∷ s) = not (b is 10) && unbroken s
 abbrev pub opening : List ℕ → List Check
 opening d =
     (1 atMost length d else 1)
-    ∷ (length d atMost 4098 else 2)
+    ∷ (length d atMost lineLimit else 2)
     ∷ []
 
 -- the only linefeed is the last byte
@@ -106,5 +106,6 @@ byType kind d =
     else if kind is 79 then checked (sizedChecks 2 d) (taken logout)
     else refused 3
 
+-- Order shows that this is one list of checks, in the readers' order
 unfoldable pub read : List ℕ → Verdict Packet
 read d = checked (opening d) (byType (getD d 0 0) d)

@@ -16,6 +16,7 @@ byPlace at none d = if getD d 0 0 is 65 then at 11 else if getD d 0 0 is 76 then
 unfoldable pub speltAnew : List ℕ → ℕ → List ℕ
 speltAnew d place = take place d ++ written (valueOf (field place 20 d)) ++ drop (place + 20) d
 
+-- proofs/Spelling shows that a packet and its spelling are read alike
 unfoldable pub spelling : List ℕ → List ℕ
 spelling d = byPlace (speltAnew d) d d
 

@@ -6,7 +6,7 @@ ghost use Rattle.soup.specs.Read.{unbroken, lineChecks, sizedChecks};
 ghost use Rattle.soup.specs.Reading.{fault};
 use wire::refusal;
 
-// The most bytes of a packet.
+// The most bytes of a packet, its linefeed among them: `lineLimit`.
 pub const LONGEST: usize = 4098;
 
 // The most bytes of a payload.

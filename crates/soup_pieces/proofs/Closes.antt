@@ -9,7 +9,7 @@ use native.Mathlib.Omega.{arith}
 use lib.Dec.{eqb}
 use lib.ListN.{length, getD, drop, length-append, length-drop}
 use lib.Seq.{length-take-le, take-at, getD-at}
-use borrow.Author.Tests.{eq-eqb, ne-eqb, le-leb, lt-leb, eqb-true, eqb-false}
+use borrow.Author.Tests.{eq-eqb, le-leb, eqb-true, eqb-false}
 use denote.Enum.Declared.{tagOf}
 use types.Run.{OneOf, miss}
 use Rattle.wire.specs.Fields.{Bytes}
@@ -32,6 +32,7 @@ use Rattle.soup.proofs.reading.Reading as Reading-type
 use Rattle.soup_pieces.specs.Machine.{begins, neither, roleOf, judge}
 use Rattle.soup_pieces.specs.Closing.{Line, emptyPieces, unfit, unnumbered, sequencedFault, closed}
 use Rattle.soup_pieces.specs.declared.Taken.the-variants as takes
+use Rattle.soup_pieces.proofs.Turns.{early, past-last, second}
 
 -- the place of a case among the reader's answers
 abbrev place-of : Reading → ℕ
@@ -42,22 +43,27 @@ abbrev pub others : List ℕ
 others = 1 ∷ 3 ∷ 4 ∷ 5 ∷ 6 ∷ 7 ∷ 8 ∷ 9 ∷ 10 ∷ []
 
 -- a packet's role by what the code answers of it, and by its first byte: no packet but an S has that of one
-record Told (p : Packet) : Type 0 where
+record RoleByAnswer (p : Packet) : Type 0 where
   later : place-of (packetOf p) ≡ 0 → ⊥
   accepted : (session : Name) (number : Sequence) → packetOf p ≡ Accept session number → roleOf p ≡ begins (number .0)
   other : OneOf others (place-of (packetOf p)) → (getD (write p) 0 0 ≡ 83 → ⊥) → roleOf p ≡ neither
 
-told : (p : Packet) → Told p
-told (debug text) = record { later = λ e. omega arith; accepted = λ s n e. impossible cc; other = λ k b. refl }
-told (accept session number) = record { later = λ e. omega arith; accepted = λ s n e. cc; other = λ k b. absurd (miss others 2 tt k) }
-told (reject reason) = record { later = λ e. omega arith; accepted = λ s n e. impossible cc; other = λ k b. refl }
-told (sequenced message) = record { later = λ e. omega arith; accepted = λ s n e. impossible cc; other = λ k b. absurd (b refl) }
-told serverHeartbeat = record { later = λ e. omega arith; accepted = λ s n e. impossible cc; other = λ k b. refl }
-told endOfSession = record { later = λ e. omega arith; accepted = λ s n e. impossible cc; other = λ k b. refl }
-told (login user password session number) = record { later = λ e. omega arith; accepted = λ s n e. impossible cc; other = λ k b. refl }
-told (unsequenced message) = record { later = λ e. omega arith; accepted = λ s n e. impossible cc; other = λ k b. refl }
-told clientHeartbeat = record { later = λ e. omega arith; accepted = λ s n e. impossible cc; other = λ k b. refl }
-told logout = record { later = λ e. omega arith; accepted = λ s n e. impossible cc; other = λ k b. refl }
+role-by-answer : (p : Packet) → RoleByAnswer p
+role-by-answer (debug text) = record { later = λ e. omega arith; accepted = λ s n e. impossible cc; other = λ k b. refl }
+role-by-answer (accept session number) =
+    record { later = λ e. omega arith; accepted = λ s n e. cc; other = λ k b. absurd (miss others 2 tt k) }
+role-by-answer (reject reason) = record { later = λ e. omega arith; accepted = λ s n e. impossible cc; other = λ k b. refl }
+role-by-answer (sequenced message) = record { later = λ e. omega arith; accepted = λ s n e. impossible cc; other = λ k b. absurd (b refl) }
+role-by-answer serverHeartbeat = record { later = λ e. omega arith; accepted = λ s n e. impossible cc; other = λ k b. refl }
+role-by-answer endOfSession = record { later = λ e. omega arith; accepted = λ s n e. impossible cc; other = λ k b. refl }
+role-by-answer (login user password session number) = record {
+  later = λ e. omega arith;
+  accepted = λ s n e. impossible cc;
+  other = λ k b. refl;
+}
+role-by-answer (unsequenced message) = record { later = λ e. omega arith; accepted = λ s n e. impossible cc; other = λ k b. refl }
+role-by-answer clientHeartbeat = record { later = λ e. omega arith; accepted = λ s n e. impossible cc; other = λ k b. refl }
+role-by-answer logout = record { later = λ e. omega arith; accepted = λ s n e. impossible cc; other = λ k b. refl }
 
 pub not-empty : (d : List ℕ) → Line d → 1 ≤ length d
 not-empty d l = some d (l .ends) where
@@ -98,17 +104,18 @@ module _ (d : List ℕ) (l : Line d) (next place : ℕ) where
         ∙ passed-all (lineChecks d) (taken (sequenced (payload d))) (eq-eqb (last d) 10 (l .ends), (l .whole, tt))
 
     pub message-refused : (n : ℕ) → n ≡ sequencedFault next → (n ≡ 0 → ⊥) → unfit n (length d) next place ≡ closed d next place
-    unfolding closed judge
+    unfolding closed
     message-refused n e z =
+        let p = sequenced (payload d) in
         by-test (eqb next 0)
-        (λ t. rw (is-sequenced, t, e, t))
+        (λ t. rw (early next d p is-sequenced refl (eqb-true next 0 t), e, t))
         (λ t. by-test (eqb next (2 ^ 64 - 1))
-        (λ f. let h : next ≡ 2 ^ 64 - 1 = eqb-true next (2 ^ 64 - 1) f in
-        rw (is-sequenced, t, lt-leb next (2 ^ 64 - 2) (omega arith), e, t, f))
+        (λ f. rw (past-last next d p is-sequenced refl (eqb-true next (2 ^ 64 - 1) f), e, t, f))
         (λ f. absurd (z (e ∙ rw (t, f)))))
 
-    pub message-taken : next < 2 ^ 64 → 0 ≡ sequencedFault next → takes.Packet (Sequenced 1 (length d - 2)) (record { 0 = next }) (length d)
-        place (emptyPieces false (next + 1)) ≡ closed d next place
+    pub message-taken : next < 2 ^ 64 → 0 ≡ sequencedFault next
+        → takes.Packet (Sequenced 1 (length d - 2)) (record { 0 = next }) (length d) place (emptyPieces false (next + 1))
+        ≡ closed d next place
     unfolding closed judge
     message-taken h e =
         let m : length (payload d) ≡ length d - 2 = length-take-le (length d - 2) (drop 1 d) (rw length-drop (omega (arith, two))) in
@@ -122,36 +129,37 @@ module _ (d : List ℕ) (l : Line d) (next place : ℕ) where
   -- ---- any other, by the reader's answer
 
   module _ (r : Reading) (e : r ≡ readingOf (read d)) where
-    pub refused-line : (why : ℕ) → r ≡ Refused why → unfit why (length d) next place ≡ closed d next place
+    pub unread-refused : (why : ℕ) → r ≡ Refused why → unfit why (length d) next place ≡ closed d next place
     unfolding closed judge
-    refused-line why k = by (read d) refl (sym e ∙ k) where
+    unread-refused why k = by (read d) refl (sym e ∙ k) where
       by : (v : Verdict Packet) → read d ≡ v → readingOf v ≡ Refused why → unfit why (length d) next place ≡ closed d next place
       by (refused n) q z = let m : n ≡ why = cc in rw (q, m)
-      by (taken p) q z = absurd (told p .later (ap place-of z))
+      by (taken p) q z = absurd (role-by-answer p .later (ap place-of z))
 
-    pub accepted-line : (session : Name) (number : Sequence) → r ≡ Accept session number → next ≡ 0
+    pub accept-taken : (session : Name) (number : Sequence) → r ≡ Accept session number → next ≡ 0
         → unnumbered (Accept session number) (length d) (number .0) place ≡ closed d next place
     unfolding closed judge
-    accepted-line session number k n = by (read d) refl (sym e ∙ k) where
-      by : (v : Verdict Packet) → read d ≡ v → readingOf v ≡ Accept session number → unnumbered (Accept session number) (length d)
-          (number .0) place ≡ closed d next place
+    accept-taken session number k n = by (read d) refl (sym e ∙ k) where
+      by : (v : Verdict Packet) → read d ≡ v → readingOf v ≡ Accept session number
+          → unnumbered (Accept session number) (length d) (number .0) place ≡ closed d next place
       by (refused m) q z = impossible cc
-      by (taken p) q z = let t = told p .accepted session number z in rw (q, t, eq-eqb next 0 n, t, z)
+      by (taken p) q z = let t = role-by-answer p .accepted session number z in rw (q, t, eq-eqb next 0 n, t, z)
 
-    pub second-line : (session : Name) (number : Sequence) → r ≡ Accept session number → (next ≡ 0 → ⊥)
+    -- a second one
+    pub accept-refused : (session : Name) (number : Sequence) → r ≡ Accept session number → (next ≡ 0 → ⊥)
         → unfit 16 (length d) next place ≡ closed d next place
-    unfolding closed judge
-    second-line session number k n = by (read d) refl (sym e ∙ k) where
+    unfolding closed
+    accept-refused session number k n = by (read d) refl (sym e ∙ k) where
       by : (v : Verdict Packet) → read d ≡ v → readingOf v ≡ Accept session number → unfit 16 (length d) next place ≡ closed d next place
       by (refused m) q z = impossible cc
-      by (taken p) q z = rw (q, told p .accepted session number z, ne-eqb next 0 n)
+      by (taken p) q z = rw (second next d p q (number .0) (role-by-answer p .accepted session number z) n)
 
-    pub other-line : Bytes d → (getD d 0 0 ≡ 83 → ⊥) → OneOf others (place-of r) → unnumbered r (length d) next place ≡ closed d next place
+    pub other-taken : Bytes d → (getD d 0 0 ≡ 83 → ⊥) → OneOf others (place-of r) → unnumbered r (length d) next place ≡ closed d next place
     unfolding closed judge
-    other-line b f k = by (read d) refl where
+    other-taken b f k = by (read d) refl where
       by : (v : Verdict Packet) → read d ≡ v → unnumbered r (length d) next place ≡ closed d next place
       by (refused n) q = absurd (miss others 0 tt (rw (e, q) at k))
       by (taken p) q =
           let s : getD (write p) 0 0 ≡ 83 → ⊥ = rw (read-is-written d p b q .1, same-type d) f in
-          let t = told p .other (rw (e, q) at k) s in
+          let t = role-by-answer p .other (rw (e, q) at k) s in
           rw (q, t, t, e, q)

@@ -3,25 +3,25 @@
 use mathlib.Core.Path.{_≡_, refl, ap}
 use mathlib.Core.List.{List, [], _∷_, _++_}
 use Prim.Native.Nat.{ℕ}
-use Rattle.soup_pieces.specs.Machine.{State, Outcome, keeps, drops, gives, eat, outcomes, after, handed}
+use Rattle.soup_pieces.specs.Machine.{Machine, Fate, keeps, drops, gives, eat, fates, fed, yielded}
 
-pub outcomes-cut : (s : State) (a b : List ℕ) → outcomes s (a ++ b) ≡ outcomes s a ++ outcomes (after s a) b
-unfolding outcomes after
-outcomes-cut s [] b = refl
-outcomes-cut s (x ∷ a) b = ap (λ (os : List Outcome). eat s x .outcome ∷ os) (outcomes-cut (eat s x .after) a b)
+pub fates-cut : (s : Machine) (a b : List ℕ) → fates s (a ++ b) ≡ fates s a ++ fates (fed s a) b
+unfolding fates fed
+fates-cut s [] b = refl
+fates-cut s (x ∷ a) b = ap (λ (os : List Fate). eat s x .fate ∷ os) (fates-cut (eat s x .machine) a b)
 
-pub after-cut : (s : State) (a b : List ℕ) → after s (a ++ b) ≡ after (after s a) b
-unfolding after
-after-cut s [] b = refl
-after-cut s (x ∷ a) b = after-cut (eat s x .after) a b
+pub fed-cut : (s : Machine) (a b : List ℕ) → fed s (a ++ b) ≡ fed (fed s a) b
+unfolding fed
+fed-cut s [] b = refl
+fed-cut s (x ∷ a) b = fed-cut (eat s x .machine) a b
 
-handed-append : (os ps : List Outcome) → handed (os ++ ps) ≡ handed os ++ handed ps
-unfolding handed
-handed-append [] ps = refl
-handed-append (keeps ∷ os) ps = handed-append os ps
-handed-append (drops b ∷ os) ps = handed-append os ps
-handed-append (gives h ∷ os) ps = rw (handed-append os ps)
+yielded-append : (os ps : List Fate) → yielded (os ++ ps) ≡ yielded os ++ yielded ps
+unfolding yielded
+yielded-append [] ps = refl
+yielded-append (keeps ∷ os) ps = yielded-append os ps
+yielded-append (drops b ∷ os) ps = yielded-append os ps
+yielded-append (gives h ∷ os) ps = rw (yielded-append os ps)
 
 -- and so with what is handed out
-pub handed-cut : (s : State) (a b : List ℕ) → handed (outcomes s (a ++ b)) ≡ handed (outcomes s a) ++ handed (outcomes (after s a) b)
-handed-cut s a b = rw (outcomes-cut s a b) (handed-append (outcomes s a) (outcomes (after s a) b))
+pub yielded-cut : (s : Machine) (a b : List ℕ) → yielded (fates s (a ++ b)) ≡ yielded (fates s a) ++ yielded (fates (fed s a) b)
+yielded-cut s a b = rw (fates-cut s a b) (yielded-append (fates s a) (fates (fed s a) b))

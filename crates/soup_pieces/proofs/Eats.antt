@@ -10,29 +10,29 @@ use borrow.Author.Tests.{eqb-true, eqb-false}
 use Rattle.wire.specs.Checks.{_is_, Verdict, refused, taken}
 use Rattle.wire.proofs.Tests.{by-test}
 use Rattle.soup.specs.Packet.{Packet}
-use Rattle.soup_pieces.specs.Machine.{State, packet, refusal, keeps, drops, gives, Eaten, roleOf, numberOf, nextAfter, judge, empty}
+use Rattle.soup_pieces.specs.Machine.{Machine, packet, refusal, keeps, drops, gives, Eaten, roleOf, numberOf, nextAfter, judge, empty}
 use Rattle.soup_pieces.specs.Machine.{ended, eat}
 
-module _ (s : State) (b : ℕ) where
+module _ (s : Machine) (b : ℕ) where
   -- the kept bytes and this one
   abbrev pub gathered : List ℕ
   gathered = s .kept ++ b ∷ []
 
   pub data Eats : Eaten → Type 0 where
-    dropped : s .dropping ≡ true → Eats (record { outcome = drops b; after = empty (not (b is 10)) (s .next) })
+    dropped : s .dropping ≡ true → Eats (record { fate = drops b; machine = empty (not (b is 10)) (s .next) })
     kept : s .dropping ≡ false → (b ≡ 10 → ⊥) → (length gathered ≡ 4098 → ⊥)
-        → Eats (record { outcome = keeps; after = record { kept = gathered; dropping = false; next = s .next } })
-    handed : s .dropping ≡ false → b ≡ 10 → (p : Packet) → judge (s .next) gathered ≡ taken p
+        → Eats (record { fate = keeps; machine = record { kept = gathered; dropping = false; next = s .next } })
+    fit : s .dropping ≡ false → b ≡ 10 → (p : Packet) → judge (s .next) gathered ≡ taken p
         → Eats (record {
-          outcome = gives (packet gathered p (numberOf (s .next) (roleOf p)));
-          after = empty false (nextAfter (s .next) (roleOf p));
+          fate = gives (packet gathered p (numberOf (s .next) (roleOf p)));
+          machine = empty false (nextAfter (s .next) (roleOf p));
         })
     unfit : s .dropping ≡ false → b ≡ 10 → (why : ℕ) → judge (s .next) gathered ≡ refused why
-        → Eats (record { outcome = gives (refusal gathered why); after = empty false (s .next) })
+        → Eats (record { fate = gives (refusal gathered why); machine = empty false (s .next) })
     overlong : s .dropping ≡ false → (b ≡ 10 → ⊥) → length gathered ≡ 4098
-        → Eats (record { outcome = gives (refusal gathered 2); after = empty true (s .next) })
+        → Eats (record { fate = gives (refusal gathered 2); machine = empty true (s .next) })
 
-  drop-is : s .dropping ≡ true → eat s b ≡ record { outcome = drops b; after = empty (not (b is 10)) (s .next) }
+  drop-is : s .dropping ≡ true → eat s b ≡ record { fate = drops b; machine = empty (not (b is 10)) (s .next) }
   unfolding eat
   drop-is d = rw d
 
@@ -41,17 +41,17 @@ module _ (s : State) (b : ℕ) where
   line-is d t = rw (d, t)
 
   overlong-is : s .dropping ≡ false → eqb b 10 ≡ false → eqb (length gathered) 4098 ≡ true
-      → eat s b ≡ record { outcome = gives (refusal gathered 2); after = empty true (s .next) }
+      → eat s b ≡ record { fate = gives (refusal gathered 2); machine = empty true (s .next) }
   unfolding eat
   overlong-is d t f = rw (d, t, f)
 
   kept-is : s .dropping ≡ false → eqb b 10 ≡ false → eqb (length gathered) 4098 ≡ false
-      → eat s b ≡ record { outcome = keeps; after = record { kept = gathered; dropping = false; next = s .next } }
+      → eat s b ≡ record { fate = keeps; machine = record { kept = gathered; dropping = false; next = s .next } }
   unfolding eat
   kept-is d t f = rw (d, t, f)
 
   line-eats : s .dropping ≡ false → b ≡ 10 → (v : Verdict Packet) → judge (s .next) gathered ≡ v → Eats (ended (s .next) gathered v)
-  line-eats d e (taken p) j = handed d e p j
+  line-eats d e (taken p) j = fit d e p j
   line-eats d e (refused why) j = unfit d e why j
 
   pub eats : Eats (eat s b)

@@ -14,7 +14,7 @@ use Rattle.soup.specs.Packet.{Packet}
 use Rattle.soup.specs.Read.{unbroken}
 use Rattle.soup.proofs.Linefeed.{append-unbroken}
 use Rattle.soup_pieces.specs.Machine.{refusal, empty, usedUp, given, judge, first}
-use Rattle.soup_pieces.specs.Taking.{takenOf, standing, Answered}
+use Rattle.soup_pieces.specs.Eating.{returned, atStart, Returned}
 use Rattle.soup_pieces.specs.Closing.{Line, emptyPieces, closedOf, closed}
 use Rattle.soup_pieces.specs.declared.Taken.the-variants as takes
 use Rattle.soup_pieces.proofs.Stretches.{first-none, holding, lineGiven, kept-on, closes, overruns}
@@ -23,13 +23,13 @@ use Rattle.soup_pieces.proofs.Closes.{ends-line}
 
 -- the answer to a line that is handed out
 line-answered : (next : ℕ) (piece d left : List ℕ) (place : ℕ) (v : Verdict Packet) → place ≡ length piece - length left
-    → closedOf next d place v ≡ takenOf piece (taken (lineGiven next d left v))
+    → closedOf next d place v ≡ returned piece (taken (lineGiven next d left v))
 line-answered next piece d left place (refused why) e = rw e
 line-answered next piece d left place (taken p) e = rw e
 
-line-standing : (next : ℕ) (d left : List ℕ) (v : Verdict Packet) → standing (lineGiven next d left v) ≡ d
-line-standing next d left (refused why) = refl
-line-standing next d left (taken p) = refl
+line-at-start : (next : ℕ) (d left : List ℕ) (v : Verdict Packet) → atStart (lineGiven next d left v) ≡ d
+line-at-start next d left (refused why) = refl
+line-at-start next d left (taken p) = refl
 
 module _ (buffer piece : List ℕ) (kept from next : ℕ) (few : kept ≤ 4097) (long : 4098 ≤ length buffer)
     (whole : unbroken (take kept buffer) ≡ true) (inside : from ≤ length piece) where
@@ -69,30 +69,31 @@ module _ (buffer piece : List ℕ) (kept from next : ℕ) (few : kept ≤ 4097) 
 
     pub is-line : Line (K ++ take (suc j) w)
     is-line =
-        rw line-is (ends-line (K ++ take j w) (append-unbroken K (take j w) whole u)
-        (omega (arith, length-stands j (omega arith) (omega arith))))
+        let unbroken-both = append-unbroken K (take j w) whole u in
+        rw line-is (ends-line (K ++ take j w) unbroken-both (omega (arith, length-stands j (omega arith) (omega arith))))
 
     -- the bytes up to it are a line, which is handed out or refused
-    pub line-ends : (place : ℕ) → place ≡ from + suc j → Answered (taken (first (holding next K) w)) buffer piece
-        (closed (K ++ take (suc j) w) next place) (copied (suc j))
+    pub line-ends : (place : ℕ) → place ≡ from + suc j
+        → Returned (taken (first (holding next K) w)) buffer piece (closed (K ++ take (suc j) w) next place) (copied (suc j))
     unfolding closed
     line-ends place p =
         let d = K ++ take (suc j) w in
         let v = judge next d in
         let left = drop (suc j) w in
         let split : w ≡ take j w ++ 10 ∷ left = split-at w j 0 h ∙ rw e in
+        let short : length K + length (take j w) ≤ 4097 = omega (arith, length-K, length-take-le j w (omega arith)) in
         let goes : first (holding next K) w ≡ lineGiven next d left v =
-        ap (first (holding next K)) split ∙ closes next K (take j w) left u (omega (arith, length-K, length-take-le j w (omega arith)))
-        ∙ rw (← line-is) in
+        ap (first (holding next K)) split ∙ closes next K (take j w) left u short ∙ rw (← line-is) in
         let l : length left ≡ length w - suc j = length-drop (suc j) w in
         record {
           answer = rw goes (line-answered next piece d left place v (omega (arith, length-w)));
-          bytes = rw (goes, line-standing next d left v) (copied-is (suc j) (omega arith) (omega arith));
+          bytes = rw (goes, line-at-start next d left v) (copied-is (suc j) (omega arith) (omega arith));
         }
 
   -- ---- no linefeed among all that is left of the piece, and it fits
 
-  pub piece-ends : unbroken w ≡ true → kept + length w ≤ 4097 → Answered (taken (first (holding next K) w)) buffer piece
+  pub piece-ends : unbroken w ≡ true → kept + length w ≤ 4097
+      → Returned (taken (first (holding next K) w)) buffer piece
       (takes.UsedUp (record { kept = kept + length w; dropping = false; next = record { 0 = next } })) (copied (length w))
   unfolding first
   piece-ends u s =
@@ -105,17 +106,16 @@ module _ (buffer piece : List ℕ) (kept from next : ℕ) (few : kept ≤ 4097) 
   -- ---- no linefeed up to the 4,098th byte
 
   pub overruns-there : (m : ℕ) → kept + m ≡ 4097 → m < length w → unbroken (take (suc m) w) ≡ true → (place : ℕ) → place ≡ from + suc m
-      → Answered (taken (first (holding next K) w)) buffer piece (takes.Unfit 2 4098 place (emptyPieces true next)) (copied (suc m))
+      → Returned (taken (first (holding next K) w)) buffer piece (takes.Unfit 2 4098 place (emptyPieces true next)) (copied (suc m))
   overruns-there m e h u place p =
       let b = getD w m 0 in
       let left = drop (suc m) w in
       let t : take (suc m) w ≡ take m w ++ b ∷ [] = take-suc w m 0 h in
       let us = parts-none (take m w) (b ∷ []) (rw t at u) in
       let d : K ++ take m w ++ b ∷ [] ≡ K ++ take (suc m) w = rw (t, append-assoc K (take m w) (b ∷ [])) in
+      let full : length K + length (take m w) ≡ 4097 = omega (arith, length-K, length-take-le m w (omega arith)) in
       let goes : first (holding next K) w ≡ given (refusal (K ++ take (suc m) w) 2) (empty true next) left =
-      ap (first (holding next K)) (split-at w m 0 h)
-      ∙ overruns next K (take m w) left b (us .0) (first-none b [] (us .1)) (omega (arith, length-K, length-take-le m w (omega arith)))
-      ∙ rw d in
+      ap (first (holding next K)) (split-at w m 0 h) ∙ overruns next K (take m w) left b (us .0) (first-none b [] (us .1)) full ∙ rw d in
       let n : length (K ++ take (suc m) w) ≡ 4098 = length-stands (suc m) h (omega arith) ∙ omega arith in
       let l : length left ≡ length w - suc m = length-drop (suc m) w in
       let q : length piece - length left ≡ place = omega (arith, length-w) in
@@ -159,24 +159,26 @@ module _ (buffer piece : List ℕ) (kept from next : ℕ) (few : kept ≤ 4097) 
       pub found-line : Line (take (kept + size) (copied size))
       found-line = rw front (is-line j (omega (arith, near, length-w)) before here (omega (arith, near)))
 
-      pub answers-line : Answered (taken (first (holding next K) w)) buffer piece
+      pub answers-line : Returned (taken (first (holding next K) w)) buffer piece
           (closed (take (kept + size) (copied size)) next (found + 1)) (copied size)
       answers-line =
-          rw (front, size-is) (line-ends j (omega (arith, near, length-w)) before here (omega (arith, near)) (found + 1)
-          (omega (arith, at-j)))
+          let ends = line-ends j (omega (arith, near, length-w)) before here (omega (arith, near)) in
+          rw (front, size-is) (ends (found + 1) (omega (arith, at-j)))
 
     module _ (h : from + most ≤ found) where
       all-before : unbroken (take most w) ≡ true
       all-before = rw (take-all j (take most w) (omega (arith, at-j, length-most))) at none-before
 
-      pub answers-end : length piece - from < 4098 - kept → Answered (taken (first (holding next K) w)) buffer piece
+      pub answers-end : length piece - from < 4098 - kept
+          → Returned (taken (first (holding next K) w)) buffer piece
           (takes.UsedUp (record { kept = kept + most; dropping = false; next = record { 0 = next } })) (copied most)
       answers-end s =
           let e : most ≡ length w = omega (arith, length-w) in
           let u : unbroken w ≡ true = rw (e, take-all (length w) w (omega arith)) at all-before in
           rw e (piece-ends u (omega (arith, length-w)))
 
-      pub answers-overlong : 4098 - kept ≤ length piece - from → Answered (taken (first (holding next K) w)) buffer piece
+      pub answers-overlong : 4098 - kept ≤ length piece - from
+          → Returned (taken (first (holding next K) w)) buffer piece
           (takes.Unfit 2 4098 (from + most) (emptyPieces true next)) (copied most)
       answers-overlong s =
           let e : most ≡ suc (4097 - kept) = omega arith in

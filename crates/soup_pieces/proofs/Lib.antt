@@ -1,10 +1,12 @@
 pub mod Stretches
 pub mod Searches
 pub mod Closes
-pub mod Hangs
+pub mod TakenLines
+pub mod Ready
 pub mod Gathers
 pub mod Takes
 pub mod Eats
+pub mod Turns
 pub mod Genuine
 pub mod Cutting
 pub mod Whole

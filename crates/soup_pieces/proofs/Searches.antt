@@ -46,13 +46,13 @@ unbroken-append (c ∷ a) b = by-test (eqb c 10) (λ t. rw t) (λ t. rw t (unbro
 pub parts-none : (a b : List ℕ) → unbroken (a ++ b) ≡ true → (unbroken a ≡ true) × (unbroken b ≡ true)
 parts-none a b u = both (unbroken a) (unbroken b) (sym (unbroken-append a b) ∙ u)
 
-pub pair : (s : List ℕ) (i : ℕ) → i + 2 ≤ length s → not (eqb (getD s i 0) 10) && not (eqb (getD s (i + 1) 0) 10) ≡ unbroken
-    (take 2 (drop i s))
+pub pair : (s : List ℕ) (i : ℕ) → i + 2 ≤ length s
+    → not (eqb (getD s i 0) 10) && not (eqb (getD s (i + 1) 0) 10) ≡ unbroken (take 2 (drop i s))
 unfolding unbroken
 pair s i h = rw (drop-cons s i 0 (omega arith), drop-cons s (suc i) 0 (omega arith), add-one i, and-true)
 
-pub halves : (s : List ℕ) (i m : ℕ) → unbroken (take (m + m) (drop i s)) ≡ unbroken (take m (drop i s)) && unbroken
-    (take m (drop (i + m) s))
+pub halves : (s : List ℕ) (i m : ℕ)
+    → unbroken (take (m + m) (drop i s)) ≡ unbroken (take m (drop i s)) && unbroken (take m (drop (i + m) s))
 halves s i m = rw (take-add m m (drop i s), drop-drop m i s) (unbroken-append (take m (drop i s)) (take m (drop (i + m) s)))
 
 -- ---- behind the first bytes
@@ -64,8 +64,8 @@ slice-split s from at to f h l =
     let t = take to s in
     let n : length t ≡ to = length-take-le to s l in
     let front : take at t ≡ take at s = take-take at to s h in
-    ap (drop from) (sym (take-append-drop at t)) ∙ drop-append-le from (take at t) (drop at t)
-    (omega (arith, length-take-le at t (omega arith))) ∙ rw front
+    let inside : from ≤ length (take at t) = omega (arith, length-take-le at t (omega arith)) in
+    ap (drop from) (sym (take-append-drop at t)) ∙ drop-append-le from (take at t) (drop at t) inside ∙ rw front
 
 pub unbroken-none-yet : (s : List ℕ) (from : ℕ) → unbroken (slice from from s) ≡ true
 unfolding slice unbroken
@@ -77,8 +77,7 @@ eight-more s from at to f h l u e =
     rw (
       slice-split s from at (at + 8) f (omega arith) (omega arith),
       unbroken-append (slice from at s) (slice at (at + 8) s),
-      part-is at 8
-          s (omega arith),
+      part-is at 8 s (omega arith),
       u,
       e,
     )

@@ -10,7 +10,7 @@ use Rattle.text.specs.Text.{letterOrDigit, blank, text, spacesThenText}
 use Rattle.decimal.specs.Decimal.{digit, digits, trimmed, wellFormed, spelt, valueOf}
 use Rattle.soup.specs.Packet.{accept, sequenced, serverHeartbeat, line}
 use Rattle.soup.specs.Read.{unbroken, acceptOf, read}
-use Rattle.soup_pieces.specs.Machine.{packet, refusal, judge, empty, eat, outcomes, after, handed}
+use Rattle.soup_pieces.specs.Machine.{packet, refusal, judge, empty, eat, fates, fed, yielded}
 
 -- six spaces, 8841
 abbrev session : List ℕ
@@ -27,10 +27,10 @@ message = line 83 (72 ∷ 73 ∷ [])
 abbrev beat : List ℕ
 beat = line 72 []
 
-abbrev fed : List ℕ
-fed = message ++ accepted ++ message ++ beat ++ accepted ++ message ++ 83 ∷ []
+abbrev offered : List ℕ
+offered = message ++ accepted ++ message ++ beat ++ accepted ++ message ++ 83 ∷ []
 
-pub comes-out : handed (outcomes (empty false 0) fed)
+pub comes-out : yielded (fates (empty false 0) offered)
     ≡ refusal message 16
     ∷ packet accepted (accept session 1) 0
     ∷ packet message (sequenced (72 ∷ 73 ∷ [])) 1
@@ -38,11 +38,11 @@ pub comes-out : handed (outcomes (empty false 0) fed)
     ∷ refusal accepted 16
     ∷ packet message (sequenced (72 ∷ 73 ∷ [])) 2
     ∷ []
-unfolding outcomes handed eat judge read acceptOf unbroken spacesThenText text letterOrDigit blank wellFormed valueOf trimmed digits digit
+unfolding fates yielded eat judge read acceptOf unbroken spacesThenText text letterOrDigit blank wellFormed valueOf trimmed digits digit
     spelt
 comes-out = refl
 
 -- an S has begun, and the message that it is will be number 3
-pub stands : after (empty false 0) fed ≡ record { kept = 83 ∷ []; dropping = false; next = 3 }
-unfolding after eat judge read acceptOf unbroken spacesThenText text letterOrDigit blank wellFormed valueOf trimmed digits digit spelt
+pub stands : fed (empty false 0) offered ≡ record { kept = 83 ∷ []; dropping = false; next = 3 }
+unfolding fed eat judge read acceptOf unbroken spacesThenText text letterOrDigit blank wellFormed valueOf trimmed digits digit spelt
 stands = refl

@@ -13,7 +13,7 @@ use Rattle.wire.specs.Checks.{Verdict, refused, taken}
 use Rattle.wire.proofs.Tests.{and-left, and-right}
 use Rattle.soup.specs.Packet.{Packet}
 use Rattle.soup.specs.Read.{unbroken}
-use Rattle.soup_pieces.specs.Machine.{State, packet, refusal, keeps, gives, roleOf, judge, numberOf, nextAfter, empty, ended, eat}
+use Rattle.soup_pieces.specs.Machine.{Machine, packet, refusal, keeps, gives, roleOf, judge, numberOf, nextAfter, empty, ended, eat}
 use Rattle.soup_pieces.specs.Machine.{First, given, first}
 
 -- what the first byte of an unbroken stretch is not, and that the rest is unbroken
@@ -27,7 +27,7 @@ rest-none b t u = and-right (not (eqb b 10)) (unbroken t) u
 
 module _ (next : ℕ) where
   -- so many bytes are kept
-  abbrev pub holding : List ℕ → State
+  abbrev pub holding : List ℕ → Machine
   holding k = record { kept = k; dropping = false; next = next }
 
   -- ---- one byte
@@ -36,12 +36,12 @@ module _ (next : ℕ) where
     one-more : length (k ++ b ∷ []) ≡ suc (length k)
     one-more = simp length-append (omega arith)
 
-    eat-kept : (b ≡ 10 → ⊥) → length k < 4097 → eat (holding k) b ≡ record { outcome = keeps; after = holding (k ++ b ∷ []) }
+    eat-kept : (b ≡ 10 → ⊥) → length k < 4097 → eat (holding k) b ≡ record { fate = keeps; machine = holding (k ++ b ∷ []) }
     unfolding eat
     eat-kept n h = rw (ne-eqb b 10 n, ne-eqb (length (k ++ b ∷ [])) 4098 (λ e. omega (arith, one-more)))
 
     eat-overlong : (b ≡ 10 → ⊥) → length k ≡ 4097
-        → eat (holding k) b ≡ record { outcome = gives (refusal (k ++ b ∷ []) 2); after = empty true next }
+        → eat (holding k) b ≡ record { fate = gives (refusal (k ++ b ∷ []) 2); machine = empty true next }
     unfolding eat
     eat-overlong n h = rw (ne-eqb b 10 n, eq-eqb (length (k ++ b ∷ [])) 4098 (omega (arith, one-more)))
 
@@ -51,8 +51,8 @@ module _ (next : ℕ) where
 
   -- ---- a stretch
 
-  pub kept-on : (k t bs : List ℕ) → unbroken t ≡ true → length k + length t ≤ 4097 → first (holding k) (t ++ bs) ≡ first (holding (k ++ t))
-      bs
+  pub kept-on : (k t bs : List ℕ) → unbroken t ≡ true → length k + length t ≤ 4097
+      → first (holding k) (t ++ bs) ≡ first (holding (k ++ t)) bs
   unfolding first
   kept-on k [] bs u h = rw append-nil
   kept-on k (b ∷ t) bs u h =
@@ -66,8 +66,8 @@ module _ (next : ℕ) where
   lineGiven d bs (taken p) = given (packet d p (numberOf next (roleOf p))) (empty false (nextAfter next (roleOf p))) bs
 
   -- a stretch and the linefeed that ends it
-  pub closes : (k t bs : List ℕ) → unbroken t ≡ true → length k + length t ≤ 4097 → first (holding k) (t ++ 10 ∷ bs) ≡ lineGiven
-      (k ++ t ++ 10 ∷ []) bs (judge next (k ++ t ++ 10 ∷ []))
+  pub closes : (k t bs : List ℕ) → unbroken t ≡ true → length k + length t ≤ 4097
+      → first (holding k) (t ++ 10 ∷ bs) ≡ lineGiven (k ++ t ++ 10 ∷ []) bs (judge next (k ++ t ++ 10 ∷ []))
   unfolding first
   closes k t bs u h = kept-on k t (10 ∷ bs) u h ∙ by (judge next (k ++ t ++ 10 ∷ [])) refl where
     by : (v : Verdict Packet) → judge next (k ++ t ++ 10 ∷ []) ≡ v → first (holding (k ++ t)) (10 ∷ bs) ≡ lineGiven (k ++ t ++ 10 ∷ []) bs v

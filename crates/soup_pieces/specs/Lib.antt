@@ -1,4 +1,4 @@
 pub mod Machine
-pub mod Taking
+pub mod Eating
 pub mod Closing
 pub mod Calling

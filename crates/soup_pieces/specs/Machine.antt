@@ -1,4 +1,4 @@
--- SoupTCP as it comes off the wire: a machine that eats one byte after another.
+-- SoupTCP as it comes off the wire: a machine that eats one byte after another, so that it can't matter how they were cut (`Cutting`).
 -- Assumes nothing.
 use Prim.Native.Nat.{ℕ, suc, _-_, _^_}
 use mathlib.Core.List.{List, [], _∷_, _++_}
@@ -6,34 +6,31 @@ use mathlib.Core.Bool.{Bool, true, false, not}
 use lib.ListN.{length}
 use Rattle.wire.specs.Checks.{if_then_else_, _is_, _atMost_, Verdict, refused, taken, Check, _else_, checked, _into_}
 use Rattle.soup.specs.Packet.{Packet, debug, accept, reject, sequenced, serverHeartbeat, endOfSession, login, unsequenced, clientHeartbeat}
-use Rattle.soup.specs.Packet.{logout}
+use Rattle.soup.specs.Packet.{logout, lineLimit}
 use Rattle.soup.specs.Read.{read}
 
--- the most bytes of a packet
-abbrev pub longest : ℕ
-longest = 4098
-
--- the bytes of an unfinished packet; whether the rest of an overlong one is being dropped; the number of the next S, 0 before Login
--- Accepted
-pub record State : Type 0 where
+-- its state: the bytes of an unfinished packet; whether the rest of an overlong one is being dropped; the number of the next S, 0 before
+-- Login Accepted
+pub record Machine : Type 0 where
   pub kept : List ℕ
   pub dropping : Bool
   pub next : ℕ
 
--- what is handed out: a packet, its bytes and its number (0 for one that has none), or the bytes of a refused packet and why
-pub data Handed : Type 0 where
-  packet : (bytes : List ℕ) (says : Packet) (number : ℕ) → Handed
-  refusal : (bytes : List ℕ) (why : ℕ) → Handed
+-- what it hands out: a packet, its bytes and its number (0 for one that has none), or the bytes of a refused packet and why; `Genuine`
+-- shows that both are the reader's word and the count's
+pub data Yield : Type 0 where
+  packet : (bytes : List ℕ) (says : Packet) (number : ℕ) → Yield
+  refusal : (bytes : List ℕ) (why : ℕ) → Yield
 
--- what becomes of a byte: it is kept, or dropped, or something is handed out that ends with it
-pub data Outcome : Type 0 where
-  keeps : Outcome
-  drops : (byte : ℕ) → Outcome
-  gives : Handed → Outcome
+-- the fate of a byte: it is kept, or dropped, or something is handed out that ends with it
+pub data Fate : Type 0 where
+  keeps : Fate
+  drops : (byte : ℕ) → Fate
+  gives : Yield → Fate
 
 pub record Eaten : Type 0 where
-  pub outcome : Outcome
-  pub after : State
+  pub fate : Fate
+  pub machine : Machine
 
 -- ---- which packets may come when
 
@@ -55,7 +52,7 @@ roleOf (unsequenced message) = neither
 roleOf clientHeartbeat = neither
 roleOf logout = neither
 
--- an S before Login Accepted, or a second A, is 16; an S whose number would be 2^64-1 is 7
+-- an S before Login Accepted, or a second A, is 16; an S whose number would be 2^64-1 is 7; `Turns` shows it of the machine
 abbrev pub turnChecks : (next : ℕ) → Role → List Check
 turnChecks next (begins number) = (next is 0 else 16) ∷ []
 turnChecks next counted = (not (next is 0) else 16) ∷ (next atMost 2 ^ 64 - 2 else 7) ∷ []
@@ -80,64 +77,68 @@ judge next d = read d into λ p. checked (turnChecks next (roleOf p)) (taken p)
 -- ---- one byte
 
 -- nothing is kept
-abbrev pub empty : (dropping : Bool) (next : ℕ) → State
+abbrev pub empty : (dropping : Bool) (next : ℕ) → Machine
 empty dropping next = record { kept = []; dropping = dropping; next = next }
 
--- a packet has ended: taken or refused it is used up, and a refused one leaves the number alone
+-- a packet has ended: taken or refused it is used up, and a refused one leaves the number alone; `Counting` shows that messages are
+-- numbered in turn
 abbrev pub ended : ℕ → List ℕ → Verdict Packet → Eaten
-ended next d (refused why) = record { outcome = gives (refusal d why); after = empty false next }
-ended next d (taken p) = record { outcome = gives (packet d p (numberOf next (roleOf p))); after = empty false (nextAfter next (roleOf p)) }
+ended next d (refused why) = record { fate = gives (refusal d why); machine = empty false next }
+ended next d (taken p) = record { fate = gives (packet d p (numberOf next (roleOf p))); machine = empty false (nextAfter next (roleOf p)) }
 
--- a linefeed ends what is dropped, or a packet; a packet whose 4,098th byte is none is refused there, and the rest is dropped
-unfoldable pub eat : State → ℕ → Eaten
+-- a linefeed ends what is dropped, or a packet; a packet whose 4,098th byte is none is refused there, and the rest is dropped; `Whole`
+-- shows that nothing is lost, `Overlong` that it is refused once
+unfoldable pub eat : Machine → ℕ → Eaten
 eat s b =
     let d = s .kept ++ b ∷ [] in
-    if s .dropping then record { outcome = drops b; after = empty (not (b is 10)) (s .next) } else
+    if s .dropping then record { fate = drops b; machine = empty (not (b is 10)) (s .next) } else
     if b is 10 then ended (s .next) d (judge (s .next) d) else
-    if length d is longest then record { outcome = gives (refusal d 2); after = empty true (s .next) } else
-    record { outcome = keeps; after = record { kept = d; dropping = false; next = s .next } }
+    if length d is lineLimit then record { fate = gives (refusal d 2); machine = empty true (s .next) } else
+    record { fate = keeps; machine = record { kept = d; dropping = false; next = s .next } }
 
 -- ---- many bytes
 
--- the outcomes of all of them, and the state afterwards
-unfoldable pub outcomes : State → List ℕ → List Outcome
-outcomes s [] = []
-outcomes s (b ∷ bs) = eat s b .outcome ∷ outcomes (eat s b .after) bs
+-- the fates of all of them, and the machine that was fed with them
+unfoldable pub fates : Machine → List ℕ → List Fate
+fates s [] = []
+fates s (b ∷ bs) = eat s b .fate ∷ fates (eat s b .machine) bs
 
-unfoldable pub after : State → List ℕ → State
-after s [] = s
-after s (b ∷ bs) = after (eat s b .after) bs
+unfoldable pub fed : Machine → List ℕ → Machine
+fed s [] = s
+fed s (b ∷ bs) = fed (eat s b .machine) bs
 
--- of these, what is handed out
-unfoldable pub handed : List Outcome → List Handed
-handed [] = []
-handed (keeps ∷ os) = handed os
-handed (drops b ∷ os) = handed os
-handed (gives h ∷ os) = h ∷ handed os
+-- what is handed out with them
+unfoldable pub yielded : List Fate → List Yield
+yielded [] = []
+yielded (keeps ∷ fs) = yielded fs
+yielded (drops b ∷ fs) = yielded fs
+yielded (gives y ∷ fs) = y ∷ yielded fs
 
--- and the bytes that were handed out, refused or dropped
-abbrev pub bytesOf : Handed → List ℕ
-bytesOf (packet d p number) = d
-bytesOf (refusal d why) = d
+-- its bytes
+abbrev pub yieldBytes : Yield → List ℕ
+yieldBytes (packet d p number) = d
+yieldBytes (refusal d why) = d
 
-unfoldable pub spent : List Outcome → List ℕ
+-- and all the bytes that were handed out, taken or refused, or dropped
+unfoldable pub spent : List Fate → List ℕ
 spent [] = []
-spent (keeps ∷ os) = spent os
-spent (drops b ∷ os) = b ∷ spent os
-spent (gives h ∷ os) = bytesOf h ++ spent os
+spent (keeps ∷ fs) = spent fs
+spent (drops b ∷ fs) = b ∷ spent fs
+spent (gives y ∷ fs) = yieldBytes y ++ spent fs
 
 -- ---- as far as the first thing that is handed out
 
--- the bytes are used up; or something is handed out, with the state then and the bytes that are left
+-- the bytes are used up; or something is handed out, with the machine then and the bytes that are left; `Reaching` shows that going on from
+-- there comes to the same
 pub data First : Type 0 where
-  usedUp : State → First
-  given : Handed → State → (left : List ℕ) → First
+  usedUp : Machine → First
+  given : Yield → Machine → (left : List ℕ) → First
 
-abbrev pub unlessGiven : Outcome → State → (left : List ℕ) → First → First
+abbrev pub unlessGiven : Fate → Machine → (left : List ℕ) → First → First
 unlessGiven keeps s left on = on
 unlessGiven (drops b) s left on = on
-unlessGiven (gives h) s left on = given h s left
+unlessGiven (gives y) s left on = given y s left
 
-unfoldable pub first : State → List ℕ → First
+unfoldable pub first : Machine → List ℕ → First
 first s [] = usedUp s
-first s (b ∷ bs) = unlessGiven (eat s b .outcome) (eat s b .after) bs (first (eat s b .after) bs)
+first s (b ∷ bs) = unlessGiven (eat s b .fate) (eat s b .machine) bs (first (eat s b .machine) bs)

@@ -1,4 +1,18 @@
-// An unfinished packet is gathered in the buffer until it ends.
+// An unfinished packet is gathered in the buffer until it ends. What comes is copied behind what is kept:
+//
+//             0                      kept                 kept + most          4,098        end
+//             |                      |                    |                    |            |
+//    buffer   | kept, no linefeed    | gathered now       | room that is left  | stays as   |
+//             | among these bytes    |                    | for the packet     | it is      |
+//                                              ^
+//                                              | copied
+//             0                      from      |          from + most          end
+//             |                      |                    |                    |
+//    piece    | handed out before,   | up to a linefeed,  | for the next call  |
+//             | or dropped           | or most bytes      |                    |
+//
+// `most` is what is left of the piece, or what there is room for if that is less. A linefeed among these bytes ends the packet, which is
+// then the buffer's first bytes; without one all of the piece is kept, or the packet is refused at its 4,098th byte.
 use crate::Pieces;
 use crate::Taken;
 use crate::closing::close;
@@ -10,12 +24,13 @@ use wire::output;
 use wire::refusal;
 ghost use mathlib.Core.Path.{_≡_};
 ghost use mathlib.Core.Bool.{true, false};
-ghost use Prim.Native.Nat.{_≤_, min};
+ghost use Prim.Native.Nat.{_-_, _≤_, min};
 ghost use lib.ListN.{length, take, drop};
 ghost use Rattle.wire.specs.Checks.{taken};
+ghost use Rattle.soup.specs.Packet.{lineLimit};
 ghost use Rattle.soup.specs.Read.{unbroken};
 ghost use Rattle.soup_pieces.specs.Machine.{first};
-ghost use Rattle.soup_pieces.specs.Taking.{Answered};
+ghost use Rattle.soup_pieces.specs.Eating.{Returned};
 
 fn smaller(a: usize, b: usize) -> usize
     ensures { λ r. ⌜ r ≡ min a b ⌝ }
@@ -31,8 +46,9 @@ pub(crate) fn gather(
     piece: &[u8],
     from: usize,
 ) -> Taken
-    requires { ⌜ (kept ≤ 4097) × (4098 ≤ length (now buffer)) × (unbroken (take kept (now buffer)) ≡ true) × (from ≤ length (now piece)) ⌝ }
-    ensures { λ r. ⌜ Answered (taken (first (record { kept = take kept (now (buffer .entry)); dropping = false; next = next .0 })
+    requires { ⌜ (kept ≤ lineLimit - 1) × (lineLimit ≤ length (now buffer)) × (unbroken (take kept (now buffer)) ≡ true)
+        × (from ≤ length (now piece)) ⌝ }
+    ensures { λ r. ⌜ Returned (taken (first (record { kept = take kept (now (buffer .entry)); dropping = false; next = next .0 })
         (drop from (now (piece .entry))))) (now (buffer .entry)) (now (piece .entry)) r (now (buffer .exit)) ⌝ }
 {
     let room = line::LONGEST - kept;

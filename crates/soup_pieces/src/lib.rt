@@ -1,16 +1,16 @@
 // SoupTCP as it comes off the wire: pieces that are cut anywhere go in, and whole packets come out in order.
 mod closing;
 mod gathering;
-mod hanging;
+mod readiness;
 mod searching;
 
 use crate::gathering::gather;
-use crate::hanging::hangs_together;
+use crate::readiness::is_ready;
 use crate::searching::linefeed;
 use soup::reading::Reading;
 use wire::kinds::Sequence;
 use wire::refusal;
-ghost use Rattle.soup_pieces.specs.Taking.{taking, Answered};
+ghost use Rattle.soup_pieces.specs.Eating.{eating, Returned};
 
 // What is handed from call to call, with the buffer.
 pub struct Pieces {
@@ -48,10 +48,10 @@ pub enum Taken {
 }
 
 pub fn take(pieces: Pieces, buffer: &mut [u8], piece: &[u8], place: usize) -> Taken
-    ensures { λ r. ⌜ Answered (taking pieces (now (buffer .entry)) (now (piece .entry)) place) (now (buffer .entry)) (now (piece .entry)) r
+    ensures { λ r. ⌜ Returned (eating pieces (now (buffer .entry)) (now (piece .entry)) place) (now (buffer .entry)) (now (piece .entry)) r
         (now (buffer .exit)) ⌝ }
 {
-    if !hangs_together(pieces, buffer) {
+    if !is_ready(pieces, buffer) {
         return Taken::Refused(refusal::BROKEN);
     }
     if piece.len() < place {

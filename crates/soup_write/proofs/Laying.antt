@@ -51,7 +51,6 @@ login-laid l x y z t user password session number h u p s e f g i =
       e,
       sets-after (set l 0 76) 1 6 user password u,
       sets-after (set l 0 76) 1 16 (user ++ password) session up,
-      sets-after
-          (set l 0 76) 1 26 (user ++ password ++ session) w ups,
+      sets-after (set l 0 76) 1 26 (user ++ password ++ session) w ups,
     )
     (filled l (user ++ password ++ session ++ w) 76 46 m h)

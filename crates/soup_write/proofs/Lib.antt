@@ -1,3 +1,4 @@
 pub mod Laying
 pub mod Sending
+pub mod Nameless
 mod Settled

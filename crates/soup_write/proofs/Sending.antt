@@ -62,8 +62,9 @@ module _ (kind : ℕ) (s : List ℕ) (room : ℕ) where
   abbrev Decided : Type 0
   Decided = sent (line kind s) room ≡ (if unbroken s then within room (line kind s) else refused 8)
 
-  judged : (p : Packet) → (kind ≡ 10 → ⊥) → settle (checked (lineChecks (line kind s)) (taken p)) (line kind s)
-      room ≡ (if unbroken s then within room (line kind s) else refused 8)
+  judged : (p : Packet) → (kind ≡ 10 → ⊥)
+      → settle (checked (lineChecks (line kind s)) (taken p)) (line kind s) room
+      ≡ (if unbroken s then within room (line kind s) else refused 8)
   unfolding unbroken
   judged p k =
       by-test (unbroken s)

@@ -44,7 +44,8 @@ fn write_bare(kind: u8, out: &mut [u8]) -> Written
 // A payload, which is looked at where it lies and copied once.
 fn write_payload(kind: u8, payload: &[u8], out: &mut [u8]) -> Written
     requires { ⌜ carries kind ≡ true ⌝ }
-    ensures { λ r. ⌜ Settled (sent (line kind (now (payload .entry))) (length (now (out .entry)))) (now (out .entry)) r (now (out .exit)) ⌝ }
+    ensures { λ r. ⌜ Settled (sent (line kind (now (payload .entry))) (length (now (out .entry)))) (now (out .entry)) r
+        (now (out .exit)) ⌝ }
 {
     let length = payload.len();
     if line::LONGEST_PAYLOAD < length {
@@ -89,7 +90,8 @@ pub fn write_reject(reason: u8, out: &mut [u8]) -> Written
 }
 
 pub fn write_sequenced(message: &[u8], out: &mut [u8]) -> Written
-    ensures { λ r. ⌜ Settled (reply (sequenced (now (message .entry))) (length (now (out .entry)))) (now (out .entry)) r (now (out .exit)) ⌝ }
+    ensures { λ r. ⌜ Settled (reply (sequenced (now (message .entry))) (length (now (out .entry)))) (now (out .entry)) r
+        (now (out .exit)) ⌝ }
 {
     write_payload(b'S', message, out)
 }
@@ -128,8 +130,8 @@ pub fn write_login(
 }
 
 pub fn write_unsequenced(message: &[u8], out: &mut [u8]) -> Written
-    ensures { λ r. ⌜ Settled (reply (unsequenced (now (message .entry))) (length (now (out .entry)))) (now (out .entry)) r (now (out .exit))
-        ⌝ }
+    ensures { λ r. ⌜ Settled (reply (unsequenced (now (message .entry))) (length (now (out .entry)))) (now (out .entry)) r
+        (now (out .exit)) ⌝ }
 {
     write_payload(b'U', message, out)
 }

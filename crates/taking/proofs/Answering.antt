@@ -1,9 +1,9 @@
--- Each way through taking a datagram, told of the definition.
+-- Each way through taking a datagram, told of the definition: broken, refused, passed, or messages.
 -- Assumes nothing.
 use Prim.Native.Nat.{ℕ}
 use mathlib.Core.List.{List, []}
-use mathlib.Core.Path.{_≡_, refl, _∙_}
-use mathlib.Core.Bool.{Bool, true, false, _&&_}
+use mathlib.Core.Path.{_≡_, refl}
+use mathlib.Core.Bool.{true, false, _&&_}
 use lib.ListN.{length}
 use Rattle.wire.specs.Checks.{Verdict, refused, taken, _into_}
 use Rattle.wire.specs.Fields.{Bytes}
@@ -12,22 +12,18 @@ use Rattle.held.specs.Hanging.{inPlace, sound}
 use Rattle.held.specs.Holding.{Holding}
 use Rattle.record.specs.Record.{wellKept, hangs}
 use Rattle.reports.specs.Reports.{Report, messages, reportOf, blocksAt, topOf, isEnd, Fills, blocksFrom}
-use Rattle.taking.specs.Taking.{clash, own, holdingEarly, Taking, reporting, taking, takenOf, Answered}
-use Rattle.taking.specs.Handing.{passing}
+use Rattle.taking.specs.Taking.{own, holdingEarly, Taking, reporting, taking, takenOf, Answered}
+use Rattle.taking.specs.Ways.{passing}
 use Rattle.record.specs.declared.Record.{Record}
 use Rattle.taking.specs.declared.Taken.{Taken}
 use Rattle.taking.specs.declared.Taken.the-variants as takes
-use Rattle.taking.proofs.Reports.{reports-none, leaves}
+use Rattle.taking.proofs.EarlyOrLate.{reports-none, leaves}
 use Rattle.reports.proofs.Reports.{sound as reported-soundly, SaysMessages}
 
 refuses : (v : Verdict Taking) (area out : List ℕ) (n : ℕ) → v ≡ refused n → Answered v area out (takes.Refused n) area out
 refuses v area out n e = rw e (record { answer = refl; bytes = refl; slots = refl })
 
 module _ (r : Record) (area d out : List ℕ) where
-  pub whatever : (top : ℕ) (final : Bool) → takenOf (passing r [] top final) ≡ takenOf (passing r area top final)
-  unfolding passing
-  whatever top final = by-test (clash r top final) (λ q. rw q) (λ q. rw q)
-
   abbrev said : Verdict Taking
   said = taking r area d (length out)
 
@@ -45,8 +41,8 @@ module _ (r : Record) (area d out : List ℕ) where
       (λ w. by-test (inPlace (r .held) (r .next .0) (r .top .0)) (λ p. rw (w, p, rw p at e)) (λ p. rw (w, p)))
       (λ w. rw w))
 
-  pub both-hang : wellKept r ≡ true → inPlace (r .held) (r .next .0) (r .top .0) && sound (r .held) area ≡ true → (hangs r ≡ true)
-      × (sound (r .held) area ≡ true)
+  pub both-hang : wellKept r ≡ true → inPlace (r .held) (r .next .0) (r .top .0) && sound (r .held) area ≡ true
+      → (hangs r ≡ true) × (sound (r .held) area ≡ true)
   unfolding hangs
   both-hang w e =
       let b = both (inPlace (r .held) (r .next .0) (r .top .0)) (sound (r .held) area) e in
@@ -60,13 +56,13 @@ module _ (r : Record) (area d out : List ℕ) where
     pub answers-refusal : (n : ℕ) → reportOf (r .session) d ≡ refused n → Answered said area out (takes.Refused n) area out
     answers-refusal n e = refuses said area out n (goes-on (refused n) e)
 
-    -- a report that delivers nothing and of which nothing is held; what it tells does not depend on the area
+    -- a report that delivers nothing and of which nothing is held
     pub answers-none : (report : Report) → reportOf (r .session) d ≡ taken report → own (r .next .0) report ≡ []
         → ((k : Holding) → holdingEarly (r .next .0) k report ≡ k) → (a : Taken) → a ≡ takenOf (passing r [] (topOf report) (isEnd report))
         → Answered said area out a area out
     answers-none report e none held a f =
         rw (goes-on (taken report) e, reports-none r area report h none (length out) held)
-        (leaves r area (topOf report) (isEnd report) out a (f ∙ whatever (topOf report) (isEnd report)))
+        (leaves r area (topOf report) (isEnd report) out a f)
 
     -- messages: their blocks stand in the datagram
     module _ (b : Bytes d) (first count p : ℕ) where

@@ -31,7 +31,7 @@ use Rattle.taking.specs.Room.{memxRoom}
 use Rattle.taking.specs.Taking.{Taking, reporting, taking}
 use Rattle.taking.proofs.Took.{Took, took}
 
--- what was said of the own session is what was reported
+-- what a packet of the own session said is what was reported
 reported-so : (s : Session) (own : SessionId) (d : List ℕ) (p : Packet) (session : ℕ) (said report : Report)
     → s ≡ Memx own
     → memx.read d ≡ taken p
@@ -61,12 +61,12 @@ module _ (r : Record) (own : SessionId) (mine : r .session ≡ Memx own) (area d
       rw (w .reported .gives, ← said) (refl, or-false (r .ended))
 
   -- T is the number of a shutdown, and the session has ended.
-  pub shutdown-names-the-total : (session n : ℕ) (extra : List ℕ) → memx.read d ≡ taken (shutdown session n extra) → (t .after .top .0 ≡ n)
-      × (t .after .ended ≡ true)
+  pub shutdown-names-the-total : (session n : ℕ) (extra : List ℕ) → memx.read d ≡ taken (shutdown session n extra)
+      → (t .after .top .0 ≡ n) × (t .after .ended ≡ true)
   shutdown-names-the-total session n extra f =
       let said = reported-so (r .session) own d (shutdown session n extra) session (end n) (w .report) mine f refl (w .reports) in
-      let high : leb (r .top .0) n ≡ true = no-clash (r .ended && not (leb n (r .top .0))) (leb (r .top .0) n)
-      (rw (← said) at (w .reported .agrees)) in
+      let high : leb (r .top .0) n ≡ true =
+      no-clash (r .ended && not (leb n (r .top .0))) (leb (r .top .0) n) (rw (← said) at (w .reported .agrees)) in
       let bound = leb-true (r .top .0) n high in
       rw (w .reported .gives, ← said) (omega arith, or-true (r .ended))
 
@@ -74,8 +74,8 @@ module _ (r : Record) (own : SessionId) (mine : r .session ≡ Memx own) (area d
 module _ (area : List ℕ) (slots : areaSize ≤ length area) where
   abbrev after-two : List ℕ → List ℕ → Verdict State
   after-two d e =
-      taking (fresh (Memx (record { 0 = 1 }))) area d memxRoom into λ t. taking (t .after) (t .area) e memxRoom into λ u. standing
-      (u .after)
+      taking (fresh (Memx (record { 0 = 1 }))) area d memxRoom into λ t.
+      taking (t .after) (t .area) e memxRoom into λ u. standing (u .after)
 
   -- Message 1 comes, then a heartbeat with the number 2: message 2 is missing.
   pub one-then-heartbeat-two : after-two (bytesOf 23 0x02_12_0000000000000001_0000000000000001_0001_0001_5A)

@@ -19,40 +19,39 @@ use Rattle.blocks.specs.declared.Place.the-variants as place
 use Rattle.blocks.proofs.Skipping.{not-reached}
 use Rattle.held.specs.Hanging.{sound}
 use Rattle.held.specs.Releasing.{released, releasing, Settled}
-use Rattle.held.specs.declared.releasing.Released.the-variants as lets
-use Rattle.taking.specs.Handing.{handedOwn, Given, handed, Handed}
-use Rattle.taking.specs.declared.deliver.Delivered.the-variants as gives
+use Rattle.held.specs.declared.releasing.Released.the-variants as gives
+use Rattle.taking.specs.Delivering.{handedOwn, Given, handed, Handed}
 
 -- one run stored behind the room of another, and then that other
-stored-both : (a b out : List ℕ) → length a + length b ≤ length out → sets (sets out (length a) b) 0 a ≡ (a ++ b) ++ drop (length (a ++ b))
-    out
+stored-both : (a b out : List ℕ) → length a + length b ≤ length out
+    → sets (sets out (length a) b) 0 a ≡ (a ++ b) ++ drop (length (a ++ b)) out
 stored-both a b out h =
     let l : List ℕ = sets out (length a) b in
     let n : length l ≡ length out = length-sets out (length a) b in
     let t : length (take (length a) out) ≡ length a = length-take-le (length a) out (omega arith) in
-    let d : drop (length a) l ≡ b ++ drop (length a + length b) out =
-    ap (drop (length a)) (stored-at out b (length a) h) ∙ drop-at (take (length a) out) (b ++ drop (length a + length b) out) (length a) t
-    in
-    stored a l (omega arith) ∙ ap (λ (x : List ℕ). a ++ x) d ∙ sym (append-assoc a b (drop (length a + length b) out))
+    let rest = drop (length a + length b) out in
+    let d : drop (length a) l ≡ b ++ rest =
+    ap (drop (length a)) (stored-at out b (length a) h) ∙ drop-at (take (length a) out) (b ++ rest) (length a) t in
+    stored a l (omega arith)
+    ∙ ap (λ (x : List ℕ). a ++ x) d
+    ∙ sym (append-assoc a b rest)
     ∙ ap (λ (k : ℕ). (a ++ b) ++ drop k out) (sym (length-append a b))
 
 -- what was let go fits behind the place, and the output is as long as before
 pub let-fits : (held : ℕ) (area : List ℕ) (m at : ℕ) (out : List ℕ) (messages bytes : ℕ) (left : List ℕ)
-    → Settled (releasing held area m at (length out)) at out (lets.Messages messages bytes) left
+    → Settled (releasing held area m at (length out)) at out (gives.Messages messages bytes) left
     → (at + bytes ≤ length out) × (length left ≡ length out)
 let-fits held area m at out messages bytes left g = by (releasing held area m at (length out)) refl g where
-  by : (v : Verdict (List (List ℕ))) → releasing held area m at (length out) ≡ v → Settled v at out (lets.Messages messages bytes) left
+  by : (v : Verdict (List (List ℕ))) → releasing held area m at (length out) ≡ v → Settled v at out (gives.Messages messages bytes) left
       → (at + bytes ≤ length out) × (length left ≡ length out)
   by (refused x) w g = impossible (cc (g .answer))
   by (taken ms) w g =
       let cs : List Check = (sound held area else 10) ∷ (at + length (frames (released held area m)) atMost length out else 9) ∷ [] in
       let c = all-passed cs (taken (released held area m)) ms w in
       let same : released held area m ≡ ms = taken-same (released held area m) ms (c .1) in
-      let z : bytes ≡ length (frames ms) = cc (g .answer) in (
-        rw (z, ← same) (leb-true (at + length (frames (released held area m))) (length out) (c .0 .1 .0)),
-        ap length (g .bytes)
-            ∙ length-sets out at (frames ms),
-      )
+      let z : bytes ≡ length (frames ms) = cc (g .answer) in
+      let fits = leb-true (at + length (frames (released held area m))) (length out) (c .0 .1 .0) in
+      (rw (z, ← same) fits, ap length (g .bytes) ∙ length-sets out at (frames ms))
 
 module _ (k : ℕ) (s : List ℕ) (p held : ℕ) (area : List ℕ) (m : ℕ) (out : List ℕ) where
   abbrev said : Verdict Given
@@ -68,20 +67,21 @@ module _ (k : ℕ) (s : List ℕ) (p held : ℕ) (area : List ℕ) (m : ℕ) (ou
     from-there : said ≡ let-go into λ ms. taken (record { own = drop q s; released = ms })
     from-there = rw e
 
-    pub hands-back : (n : ℕ) (left : List ℕ) → Settled (releasing held area m (length s - q) (length out)) (length s - q) out
-        (lets.Refused n) left → Handed said out (gives.Refused n) left
+    pub hands-back : (n : ℕ) (left : List ℕ)
+        → Settled (releasing held area m (length s - q) (length out)) (length s - q) out (gives.Refused n) left
+        → Handed said out (gives.Refused n) left
     hands-back n left h = rw from-there (by let-go (rw (← length-drop q s) at h)) where
-      by : (v : Verdict (List (List ℕ))) → Settled v (length (drop q s)) out (lets.Refused n) left
+      by : (v : Verdict (List (List ℕ))) → Settled v (length (drop q s)) out (gives.Refused n) left
           → Handed (v into λ ms. taken (record { own = drop q s; released = ms })) out (gives.Refused n) left
       by (refused x) g = let z : n ≡ x = cc (g .answer) in rw z (record { answer = refl; bytes = g .bytes })
       by (taken ms) g = impossible (cc (g .answer))
 
-    pub hands-over : (messages bytes : ℕ) (left last : List ℕ) → Settled (releasing held area m (length s - q) (length out)) (length s - q)
-        out (lets.Messages messages bytes) left
-        → last ≡ sets left 0 (take (length s - q) (drop q s)) → Handed said out (gives.Bytes (length s - q + bytes) messages) last
+    pub hands-over : (messages bytes : ℕ) (left last : List ℕ)
+        → Settled (releasing held area m (length s - q) (length out)) (length s - q) out (gives.Messages messages bytes) left
+        → last ≡ sets left 0 (take (length s - q) (drop q s)) → Handed said out (gives.Messages messages (length s - q + bytes)) last
     hands-over messages bytes left last g f = rw from-there (by let-go refl (rw (← length-drop q s) at g)) where
-      by : (v : Verdict (List (List ℕ))) → let-go ≡ v → Settled v (length (drop q s)) out (lets.Messages messages bytes) left
-          → Handed (v into λ ms. taken (record { own = drop q s; released = ms })) out (gives.Bytes (length s - q + bytes) messages) last
+      by : (v : Verdict (List (List ℕ))) → let-go ≡ v → Settled v (length (drop q s)) out (gives.Messages messages bytes) left
+          → Handed (v into λ ms. taken (record { own = drop q s; released = ms })) out (gives.Messages messages (length s - q + bytes)) last
       by (refused x) w g = impossible (cc (g .answer))
       by (taken ms) w g =
           let room = let-fits held area m (length (drop q s)) out messages bytes left (rw w g) .0 in

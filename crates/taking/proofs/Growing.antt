@@ -23,9 +23,9 @@ use Rattle.record.specs.Record.{hangs}
 use Rattle.record.specs.declared.Record.{Record}
 use Rattle.record.proofs.Hanging.{hanging}
 use Rattle.reports.specs.Reports.{Report, messages, isEnd}
-use Rattle.taking.specs.Taking.{own, delivered, holding, after, Taking, taking}
-use Rattle.taking.proofs.Reports.{Lies, reaches, ahead, passes, lies, early, early-held, none-held, delivers-many, delivers-none}
-use Rattle.taking.proofs.Reports.{holds-early}
+use Rattle.taking.specs.Taking.{own, delivered, freedBy, holding, after, Taking, taking}
+use Rattle.taking.proofs.EarlyOrLate.{Lies, reaches, ahead, passes, lies, early, early-held, none-held, delivers-many, delivers-none}
+use Rattle.taking.proofs.EarlyOrLate.{holds-early}
 use Rattle.taking.proofs.Took.{took}
 use Rattle.taking.proofs.Numbered.{Held, is-held, held-so}
 
@@ -69,22 +69,20 @@ freed-remembers held next n area z m h =
 
 module _ (r : Record) (area : List ℕ) (h : hangs r ≡ true) (s : sound (r .held) area ≡ true) (m : ℕ) (was : Held (r .held) (r .next .0) m)
   where
-    freed-after : (report : Report) → Remembered (after r area report .next .0)
-        (freedFrom (length (delivered r area report)) (r .held) (r .next .0)) area m (heldMessage area m)
+    freed-after : (report : Report) → Remembered (after r area report .next .0) (freedBy r area report .held) area m
+        (heldMessage area m)
     freed-after report =
         let n = length (delivered r area report) in
-        let z : full (freedFrom n (r .held) (r .next .0)) (r .next .0 + n) ≡ false = rw (delivers-many r area report)
-        (released-free (r .held) (r .next .0) (r .top .0) (length (own (r .next .0) report)) (hanging r h .placed)) in
+        let k = length (own (r .next .0) report) in
+        let z : full (freedFrom n (r .held) (r .next .0)) (r .next .0 + n) ≡ false =
+        rw (delivers-many r area report) (released-free (r .held) (r .next .0) (r .top .0) k (hanging r h .placed)) in
         freed-remembers (r .held) (r .next .0) n area z m was
 
-    remembers : (report : Report) → Lies (r .next .0) report → Remembered (after r area report .next .0) (after r area report .held)
-        (holding r area report .area) m (heldMessage area m)
-    remembers report (passes _ e k) = rw (k
-        (record { held = freedFrom (length (delivered r area report)) (r .held) (r .next .0); area = area })) (freed-after report)
+    remembers : (report : Report) → Lies (r .next .0) report
+        → (let now = after r area report in Remembered (now .next .0) (now .held) (holding r area report .area) m (heldMessage area m))
+    remembers report (passes _ e k) = rw (k (freedBy r area report)) (freed-after report)
     remembers report (reaches first ms a b) =
-        rw (none-held (r .next .0) first ms a
-        (record { held = freedFrom (length (delivered r area (messages first ms))) (r .held) (r .next .0); area = area }))
-        (freed-after (messages first ms))
+        rw (none-held (r .next .0) first ms a (freedBy r area (messages first ms))) (freed-after (messages first ms))
     remembers report (ahead first ms a) =
         let e = early (r .next .0) first ms a in
         let k : Holding = record { held = r .held; area = area } in
@@ -99,5 +97,5 @@ pub never-forgets : (r : Record) (area d : List ℕ) (room : ℕ) (t : Taking) �
     → isHeld (r .held) (r .next .0) m ≡ true → Remembered (t .after .next .0) (t .after .held) (t .area) m (heldMessage area m)
 never-forgets r area d room t e m h =
     let w = took r area d room t e in
-    rw (w .reported .gives) (remembers r area (w .hangs) (w .sound) m (is-held (r .held) (r .next .0) m h) (w .report)
-    (lies (r .next .0) (w .report)))
+    let was = is-held (r .held) (r .next .0) m h in
+    rw (w .reported .gives) (remembers r area (w .hangs) (w .sound) m was (w .report) (lies (r .next .0) (w .report)))

@@ -1,4 +1,4 @@
--- A record that hangs together goes on hanging together, and so does its area: fresh, after any datagram, after any request.
+-- A record hangs together once it is opened, and goes on hanging together after any datagram; so does its area. After any request: asking.
 -- Assumes nothing.
 use Prim.Native.Nat.{ℕ, _+_, _-_, _≤_, max}
 use mathlib.Core.List.{List, [], _∷_}
@@ -14,25 +14,25 @@ use Rattle.text.specs.Text.{blank, textThenSpaces}
 use Rattle.wire.specs.declared.kinds.Name.{Name}
 use Rattle.wire.specs.declared.kinds.SessionId.{SessionId}
 use Rattle.wire.proofs.Checks.{all-passed}
-use Rattle.held.specs.Slots.{areaSize, freedFrom}
+use Rattle.held.specs.Slots.{freedFrom}
 use Rattle.held.specs.Hanging.{inPlace, sound}
 use Rattle.held.specs.Holding.{Holding}
-use Rattle.held.proofs.Hangs.{in-place-higher, none-in-place, freed-sound, none-sound}
+use Rattle.held.proofs.Hangs.{in-place-higher, none-in-place, freed-sound}
 use Rattle.held.proofs.Holds.{all-in-place, all-sound}
 use Rattle.held.proofs.Releases.{released-in-place, released-near}
 use Rattle.record.specs.Record.{fresh, opening, lawful, highest, hangs}
 use Rattle.reports.specs.Reports.{Report, messages, topOf}
-use Rattle.taking.specs.Taking.{own, delivered, holding, after, Taking, taking}
+use Rattle.taking.specs.Taking.{own, delivered, freedBy, holding, after, Taking, taking}
 use Rattle.record.specs.declared.Session.{Session}
 use Rattle.record.specs.declared.Session.the-variants.{Ufo, Memx}
 use Rattle.record.specs.declared.Record.{Record}
 use Rattle.record.proofs.Hanging.{Hanging, hanging, hangs-so}
 use Rattle.reports.proofs.Reports as reports
-use Rattle.taking.proofs.Reports.{Lies, reaches, ahead, passes, lies, among, early, early-held, none-held, delivers-many}
-use Rattle.taking.proofs.Reports.{delivers-none, holds-early}
+use Rattle.taking.proofs.EarlyOrLate.{Lies, reaches, ahead, passes, lies, among, early, early-held, none-held, delivers-many}
+use Rattle.taking.proofs.EarlyOrLate.{delivers-none, holds-early}
 use Rattle.taking.proofs.Took.{took}
 
--- A fresh record of a lawful session hangs together,
+-- A fresh record of a lawful session hangs together.
 pub fresh-hangs : (s : Session) → lawful s ≡ true → hangs (fresh s) ≡ true
 fresh-hangs s l =
     hangs-so (fresh s) (record {
@@ -44,15 +44,11 @@ fresh-hangs s l =
       placed = none-in-place 1 0;
     })
 
--- and with any area that has 32 slots.
-pub fresh-sound : (s : Session) (area : List ℕ) → areaSize ≤ length area → sound (fresh s .held) area ≡ true
-fresh-sound s area l = none-sound area l
-
 -- Whatever is opened hangs together.
 pub opened-hangs : (name : Name) (r : Record) → opening name ≡ taken r → hangs r ≡ true
 opened-hangs name r e =
-    let p = all-passed ((textThenSpaces (nameBytes name) else 5) ∷ (not (blank (nameBytes name)) else 6) ∷ []) (taken (fresh (Ufo name))) r
-    e in
+    let checks = (textThenSpaces (nameBytes name) else 5) ∷ (not (blank (nameBytes name)) else 6) ∷ [] in
+    let p = all-passed checks (taken (fresh (Ufo name))) r e in
     let same : fresh (Ufo name) ≡ r = cc (p .1) in
     rw (← same) (fresh-hangs (Ufo name) (rw (p .0 .0, p .0 .1 .0)))
 
@@ -61,16 +57,19 @@ opened-memx-hangs id = fresh-hangs (Memx id) refl
 
 module _ (r : Record) (area : List ℕ) (h : hangs r ≡ true) where
   -- the packet's own messages do not lie above its top
-  own-near : (report : Report) → Lies (r .next .0) report → r .next .0 + length (own (r .next .0) report) ≤ max (r .top .0)
-      (topOf report) + 1
-  own-near report (passes _ e _) = let n : length (own (r .next .0) report) ≡ 0 = ap length e in let k = hanging r h .near in omega arith
+  own-near : (report : Report) → Lies (r .next .0) report
+      → r .next .0 + length (own (r .next .0) report) ≤ max (r .top .0) (topOf report) + 1
+  own-near report (passes _ e _) =
+      let n : length (own (r .next .0) report) ≡ 0 = ap length e in
+      let k = hanging r h .near in
+      omega arith
   own-near report (ahead first ms a) =
       let n : length (own (r .next .0) (messages first ms)) ≡ 0 = ap length (early (r .next .0) first ms a) in
       let k = hanging r h .near in
       omega arith
   own-near report (reaches first ms a b) =
-      let n : length (own (r .next .0) (messages first ms)) ≡ length ms - (r .next .0 - first) = rw (among (r .next .0) first ms a b)
-      (length-drop (r .next .0 - first) ms) in
+      let n : length (own (r .next .0) (messages first ms)) ≡ length ms - (r .next .0 - first) =
+      rw (among (r .next .0) first ms a b) (length-drop (r .next .0 - first) ms) in
       omega arith
 
   module _ (report : Report) where
@@ -80,24 +79,21 @@ module _ (r : Record) (area : List ℕ) (h : hangs r ≡ true) where
 
     pub near-after : after r area report .next .0 ≤ after r area report .top .0 + 1
     near-after =
+        let k = length (own (r .next .0) report) in
         rw (delivers-many r area report)
-        (released-near (r .held) (r .next .0) (max (r .top .0) (topOf report)) (length (own (r .next .0) report)) higher
-        (own-near report (lies (r .next .0) report)))
+        (released-near (r .held) (r .next .0) (max (r .top .0) (topOf report)) k higher (own-near report (lies (r .next .0) report)))
 
-    freed-after : inPlace (freedFrom (length (delivered r area report)) (r .held) (r .next .0))
-        (r .next .0 + length (delivered r area report)) (max (r .top .0) (topOf report)) ≡ true
+    freed-after : let n = length (delivered r area report) in
+        inPlace (freedFrom n (r .held) (r .next .0)) (r .next .0 + n) (max (r .top .0) (topOf report)) ≡ true
     freed-after =
         rw (delivers-many r area report)
         (released-in-place (r .held) (r .next .0) (max (r .top .0) (topOf report)) (length (own (r .next .0) report)) higher)
 
-  pub placed-after : (report : Report) → Lies (r .next .0) report → inPlace (after r area report .held) (after r area report .next .0)
-      (after r area report .top .0) ≡ true
-  placed-after report (passes _ e k) = rw
-      (k (record { held = freedFrom (length (delivered r area report)) (r .held) (r .next .0); area = area })) (freed-after report)
+  pub placed-after : (report : Report) → Lies (r .next .0) report
+      → (let now = after r area report in inPlace (now .held) (now .next .0) (now .top .0) ≡ true)
+  placed-after report (passes _ e k) = rw (k (freedBy r area report)) (freed-after report)
   placed-after report (reaches first ms a b) =
-      rw (none-held (r .next .0) first ms a
-      (record { held = freedFrom (length (delivered r area (messages first ms))) (r .held) (r .next .0); area = area }))
-      (freed-after (messages first ms))
+      rw (none-held (r .next .0) first ms a (freedBy r area (messages first ms))) (freed-after (messages first ms))
   placed-after report (ahead first ms a) =
       let e = early (r .next .0) first ms a in
       let z : length (delivered r area (messages first ms)) ≡ 0 = ap length (delivers-none r area (messages first ms) h e) in
@@ -109,12 +105,10 @@ module _ (r : Record) (area : List ℕ) (h : hangs r ≡ true) where
   sound-after : (report : Report) → Lies (r .next .0) report → sound (r .held) area ≡ true
       → sound (holding r area report .held) (holding r area report .area) ≡ true
   sound-after report (passes _ e k) s =
-      let n = length (delivered r area report) in
-      rw (k (record { held = freedFrom n (r .held) (r .next .0); area = area })) (freed-sound (r .held) area n (r .next .0) s)
+      rw (k (freedBy r area report)) (freed-sound (r .held) area (length (delivered r area report)) (r .next .0) s)
   sound-after report (reaches first ms a b) s =
-      let n = length (delivered r area (messages first ms)) in
-      rw (none-held (r .next .0) first ms a (record { held = freedFrom n (r .held) (r .next .0); area = area }))
-      (freed-sound (r .held) area n (r .next .0) s)
+      rw (none-held (r .next .0) first ms a (freedBy r area (messages first ms)))
+      (freed-sound (r .held) area (length (delivered r area (messages first ms))) (r .next .0) s)
   sound-after report (ahead first ms a) s =
       let k : Holding = record { held = r .held; area = area } in
       rw (holds-early r area (messages first ms) h (early (r .next .0) first ms a), early-held (r .next .0) first ms a k)

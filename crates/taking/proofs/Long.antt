@@ -59,8 +59,8 @@ module _ (r : Record) (area d : List ℕ) (room : ℕ) (t : Taking) (e : taking 
           by l (was-held g _) = true≢false (sym g ∙ new)
 
     -- So if it did not go out, the record stands at what it lacks, and names it.
-    pub long-missing : Bytes d → t .after .next .0 ≤ n → (standing (t .after) ≡ taken (missing (missingOf (t .after))))
-        × Within n (missingOf (t .after))
+    pub long-missing : Bytes d → t .after .next .0 ≤ n
+        → (standing (t .after) ≡ taken (missing (missingOf (t .after)))) × Within n (missingOf (t .after))
     long-missing b l =
         let stands = missing-if (t .after) (taking-hangs r area d room t b e) (omega (arith, top-rises)) in
         (stands, missing-means (t .after) (missingOf (t .after)) stands n .1 (l, top-rises, long-not-held))

@@ -27,9 +27,9 @@ use Rattle.record.specs.Record.{hangs}
 use Rattle.record.specs.declared.Record.{Record}
 use Rattle.record.proofs.Hanging.{hanging}
 use Rattle.reports.specs.Reports.{Report, messages, news, end, reportOf}
-use Rattle.taking.specs.Taking.{own, delivered, holding, after, Taking, outcome, taking}
-use Rattle.taking.proofs.Reports.{Lies, reaches, ahead, passes, lies, among, early, early-held, none-held, delivers-many}
-use Rattle.taking.proofs.Reports.{delivers-none, holds-early}
+use Rattle.taking.specs.Taking.{own, delivered, freedBy, holding, after, Taking, outcome, taking}
+use Rattle.taking.proofs.EarlyOrLate.{Lies, reaches, ahead, passes, lies, among, early, early-held, none-held, delivers-many}
+use Rattle.taking.proofs.EarlyOrLate.{delivers-none, holds-early}
 use Rattle.taking.proofs.Took.{Took, took}
 
 -- what is held, as facts
@@ -91,11 +91,11 @@ module _ (r : Record) (area : List ℕ) (report : Report) (h : hangs r ≡ true)
       let n = released-numbered (r .held) (r .next .0) (r .top .0) k (hanging r h .placed) j l in
       let f = freed-was k (r .held) (r .next .0) (r .next .0 + k + j) (run-full 31 left (r .next .0 + k) j l) in
       let a = n .0 in
-      let b = n .1 in (
-        rw (le-leb (r .next .0 + 1) (r .next .0 + k + j) (omega arith), le-leb (r .next .0 + k + j) (r .next .0 + 31) (omega arith))
-            f,
-        getD-append-add (own (r .next .0) report) (released left area (r .next .0 + k)) j [] ∙ held-at (run 31 left (r .next .0 + k))
-            area (r .next .0 + k) j l,
+      let b = n .1 in
+      let i : ℕ = r .next .0 + k + j in (
+        rw (le-leb (r .next .0 + 1) i (omega arith), le-leb i (r .next .0 + 31) (omega arith)) f,
+        getD-append-add (own (r .next .0) report) (released left area (r .next .0 + k)) j []
+            ∙ held-at (run 31 left (r .next .0 + k)) area (r .next .0 + k) j l,
       )
 
   pub by-number : (i : ℕ) → r .next .0 ≤ i → i < r .next .0 + length (delivered r area report)
@@ -126,8 +126,8 @@ still-was held next top n m e h =
     held-so held next m (record { past = omega arith; near = omega (arith, w .0); full = freed-was n held next m (h .full) })
 
 module _ (r : Record) (area : List ℕ) (h : hangs r ≡ true) (s : sound (r .held) area ≡ true) (i : ℕ) where
-  freed-came : (report : Report) → isHeld (freedFrom (length (delivered r area report)) (r .held) (r .next .0))
-      (after r area report .next .0) i ≡ true → Came r area report i (heldMessage area i)
+  freed-came : (report : Report) → isHeld (freedBy r area report .held) (after r area report .next .0) i ≡ true
+      → Came r area report i (heldMessage area i)
   freed-came report e =
       let n = length (delivered r area report) in
       was-held (still-was (r .held) (r .next .0) (r .top .0) n i (hanging r h .placed)
@@ -135,8 +135,8 @@ module _ (r : Record) (area : List ℕ) (h : hangs r ≡ true) (s : sound (r .he
 
   -- an early packet's messages lie in the area beside those that were there
   early-came : (first : ℕ) (ms : List (List ℕ))
-      → (let k = holdAll (r .next .0) (record { held = r .held; area = area }) first ms in Held (k .held) (r .next .0) i
-      → Came r area (messages first ms) i (heldMessage (k .area) i))
+      → (let k = holdAll (r .next .0) (record { held = r .held; area = area }) first ms in
+      Held (k .held) (r .next .0) i → Came r area (messages first ms) i (heldMessage (k .area) i))
   early-came first ms e = by (all-new (r .next .0) was first ms fits i (e .past) (e .near) (e .full)) where
     was : Holding
     was = record { held = r .held; area = area }
@@ -154,11 +154,10 @@ module _ (r : Record) (area : List ℕ) (h : hangs r ≡ true) (s : sound (r .he
   held-came : (report : Report) → Lies (r .next .0) report → isHeld (after r area report .held) (after r area report .next .0) i ≡ true
       → Came r area report i (heldMessage (holding r area report .area) i)
   held-came report (passes _ z k) e =
-      let same = k (record { held = freedFrom (length (delivered r area report)) (r .held) (r .next .0); area = area }) in
+      let same = k (freedBy r area report) in
       rw same (freed-came report (rw same at e))
   held-came report (reaches first ms a b) e =
-      let same = none-held (r .next .0) first ms a
-      (record { held = freedFrom (length (delivered r area (messages first ms))) (r .held) (r .next .0); area = area }) in
+      let same = none-held (r .next .0) first ms a (freedBy r area (messages first ms)) in
       rw same (freed-came (messages first ms) (rw same at e))
   held-came report (ahead first ms a) e =
       let z = early (r .next .0) first ms a in
@@ -208,16 +207,16 @@ module _ (r : Record) (area d : List ℕ) (room : ℕ) (t : Taking) (e : taking 
           rw (reported-is (messages first ms) h, among (r .next .0) first ms a b, many, n)
 
       -- and N becomes last + 1 and as many more.
-      pub next-past-last : t .after .next .0 ≡ first + length ms + run 31
-          (freedFrom (first + length ms - r .next .0) (r .held) (r .next .0)) (first + length ms)
+      pub next-past-last : t .after .next .0
+          ≡ first + length ms + run 31 (freedFrom (first + length ms - r .next .0) (r .held) (r .next .0)) (first + length ms)
       next-past-last =
           let n : r .next .0 + (first + length ms - r .next .0) ≡ first + length ms = omega arith in
           let m = rw (among (r .next .0) first ms a b, many, n) at (delivers-many r area (messages first ms)) in
           rw (reported-is (messages first ms) h, among (r .next .0) first ms a b, many, n, m) (omega arith)
 
     -- Other data deliver nothing, and N stays.
-    pub others-deliver-nothing : (first ≤ r .next .0 → r .next .0 < first + length ms → ⊥) → (t .delivered ≡ [])
-        × (t .after .next .0 ≡ r .next .0)
+    pub others-deliver-nothing : (first ≤ r .next .0 → r .next .0 < first + length ms → ⊥)
+        → (t .delivered ≡ []) × (t .after .next .0 ≡ r .next .0)
     others-deliver-nothing o = by (lies (r .next .0) (messages first ms)) where
       passed : own (r .next .0) (messages first ms) ≡ [] → (t .delivered ≡ []) × (t .after .next .0 ≡ r .next .0)
       passed z = rw (reported-is (messages first ms) h, delivers-none r area (messages first ms) (w .hangs) z) (refl, add-zero (r .next .0))

@@ -95,8 +95,8 @@ module _ (d : List ℕ) (b : Bytes d) where
       delivery-fits =
           let ms = own (r .next .0) report in
           let held = freedFrom (length ms) (r .held) (r .next .0) in
-          let l = released-lean held area (r .next .0 + length ms)
-          (freed-fits (r .held) area (length ms) (r .next .0) (sound-fits (r .held) area s)) in
+          let fits = freed-fits (r .held) area (length ms) (r .next .0) (sound-fits (r .held) area s) in
+          let l = released-lean held area (r .next .0 + length ms) fits in
           let more = released held area (r .next .0 + length ms) in
           rw (frames-append ms more, length-append) (omega (arith, room-for (r .session) (r .next .0) report e))
 

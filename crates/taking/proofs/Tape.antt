@@ -12,11 +12,11 @@ use Rattle.wire.specs.Checks.{taken}
 use Rattle.wire.proofs.Tests.{by-test, either}
 use Rattle.record.specs.Record.{fresh, lawful}
 use Rattle.reports.specs.Reports.{Report, messages, news, end, reportOf, topOf, isEnd}
-use Rattle.record.specs.Standing.{ongoing, complete, standing}
+use Rattle.record.specs.Standing.{ongoing, standing}
 use Rattle.taking.specs.Taking.{Taking, taking}
 use Rattle.record.specs.declared.Record.{Record}
 use Rattle.record.specs.declared.Session.{Session}
-use Rattle.record.proofs.Complete.{ongoing-if, standing-means}
+use Rattle.record.proofs.Complete.{ongoing-if}
 use Rattle.taking.proofs.Took.{Took, took}
 use Rattle.taking.proofs.Kept.{fresh-hangs}
 
@@ -24,16 +24,13 @@ use Rattle.taking.proofs.Kept.{fresh-hangs}
 pub empty-tape : (s : Session) → lawful s ≡ true → standing (fresh s) ≡ taken ongoing
 empty-tape s e = ongoing-if (fresh s) (fresh-hangs s e) refl (omega arith)
 
--- A complete record has heard an end.
-pub end-was-heard : (r : Record) → standing r ≡ taken complete → r .ended ≡ true
-end-was-heard r e = standing-means r complete e .0
-
 an-end : (report : Report) → isEnd report ≡ true → (total : ℕ) × (report ≡ end total)
 an-end (messages first ms) e = absurd (false≢true e)
 an-end (news highest) e = absurd (false≢true e)
 an-end (end total) e = (total, refl)
 
--- Nothing that is taken marks a record ended but an end packet of its own session.
+-- Nothing that is taken marks a record ended but an end packet. In MEMX style that is a shutdown which names the record's own session
+-- (Whose); in UFO style it is whatever `E` the record is fed, since an `E` names no session.
 pub only-an-end : (r : Record) (area d : List ℕ) (room : ℕ) (t : Taking) → taking r area d room ≡ taken t → t .after .ended ≡ true
     → (r .ended ≡ true) ⊎ ((total : ℕ) × (reportOf (r .session) d ≡ taken (end total)))
 only-an-end r area d room t e h = by (either (r .ended) (isEnd (w .report)) ended) where
@@ -59,4 +56,6 @@ end-stands r area d room t e h =
     let top = topOf (w .report) in
     by-test (leb top (r .top .0))
     (λ q. let l = leb-true top (r .top .0) q in rw (w .reported .gives) (omega arith))
-    (λ q. absurd (past-end (r .ended) (leb top (r .top .0)) (isEnd (w .report) && not (leb (r .top .0) top)) h q (w .reported .agrees)))
+    (λ q.
+    let other = isEnd (w .report) && not (leb (r .top .0) top) in
+    absurd (past-end (r .ended) (leb top (r .top .0)) other h q (w .reported .agrees)))

@@ -14,19 +14,21 @@ use Rattle.blocks.proofs.Skipping.{stepped-at, none-at}
 use Rattle.held.specs.Holding.{Holding, holdOne, holdAll, Held}
 use Rattle.held.proofs.Holds.{all-keeps}
 use Rattle.record.specs.Record.{hangs}
-use Rattle.reports.specs.Reports.{messages, blocksFrom}
-use Rattle.taking.specs.Taking.{clash, told, reporting, Answered}
+use Rattle.reports.specs.Reports.{Fills, blocksFrom}
+use Rattle.reports.proofs.Reports.{counted}
+use Rattle.taking.specs.Taking.{clash, told}
+use Rattle.taking.specs.Ways.{TakesMessages}
 use Rattle.record.specs.declared.Record.{Record}
 use Rattle.taking.specs.declared.Taken.{Taken}
 use Rattle.taking.specs.declared.Taken.the-variants as takes
-use Rattle.taking.proofs.Reports.{reports-early}
+use Rattle.taking.proofs.EarlyOrLate.{reports-early}
 
 -- of n blocks that fill a datagram from p on, the first, and those behind it
 pub record Tried (d : List ℕ) (next : ℕ) (h : Holding) (number p n : ℕ) : Type 0 where
   pub inside : endAt d p ≤ length d
   pub others : fills d (endAt d p) (n - 1) ≡ true
-  pub goes-on : holdAll next h number (blocksFrom d p n) ≡ holdAll next (holdOne next h number (first (drop p d))) (number + 1)
-      (blocksFrom d (endAt d p) (n - 1))
+  pub goes-on : holdAll next h number (blocksFrom d p n)
+      ≡ holdAll next (holdOne next h number (first (drop p d))) (number + 1) (blocksFrom d (endAt d p) (n - 1))
 
 pub tried : (d : List ℕ) (next : ℕ) (h : Holding) (number p n : ℕ) → 0 < n → fills d p n ≡ true → Tried d next h number p n
 unfolding holdAll
@@ -56,29 +58,33 @@ pub one-long : (next : ℕ) (h : Holding) (number : ℕ) (message : List ℕ) �
 unfolding holdAll
 one-long next h number message = all-keeps next h number (message ∷ []) .long
 
-module _ (r : Record) (area : List ℕ) (from count : ℕ) (ms : List (List ℕ)) (l : length ms ≡ count) (h : hangs r ≡ true)
-    (a : r .next .0 < from) where
+-- messages whose blocks fill the datagram from p on come early
+module _ (r : Record) (area d : List ℕ) (p from count : ℕ) (f : Fills d p from count) (h : hangs r ≡ true) (a : r .next .0 < from) where
+  abbrev ms : List (List ℕ)
+  ms = blocksFrom d p count
+
+  many : length ms ≡ count
+  many = counted d p from count f
+
   -- the packet contradicts
-  pub early-clash : clash r (from + count - 1) false ≡ true → Answered (reporting r area 0 (messages from ms)) area [] (takes.Refused 12)
-      area []
-  early-clash c = rw (reports-early r area 0 from ms h a, l, c) (record { answer = refl; bytes = refl; slots = refl })
+  pub early-clash : clash r (from + count - 1) false ≡ true → TakesMessages r from count area d p [] (takes.Refused 12) area []
+  early-clash c = rw (reports-early r area 0 from ms h a, many, c) (record { answer = refl; bytes = refl; slots = refl })
 
   -- or its messages are held
   pub early-kept : (held : ℕ) (left : List ℕ) → clash r (from + count - 1) false ≡ false
       → Held (holdAll (r .next .0) (record { held = r .held; area = area }) from ms) held left
-      → Answered (reporting r area 0 (messages from ms)) area [] (takes.Took 0 0 (told r (r .next .0) held (from + count - 1) false)) left
-      []
+      → TakesMessages r from count area d p [] (takes.Took 0 0 (told r (r .next .0) held (from + count - 1) false)) left []
   unfolding frames
-  early-kept held left c k = rw (reports-early r area 0 from ms h a, l, c, k .bitmap, k .bytes)
-      (record { answer = refl; bytes = refl; slots = refl })
+  early-kept held left c k =
+      rw (reports-early r area 0 from ms h a, many, c, k .bitmap, k .bytes) (record { answer = refl; bytes = refl; slots = refl })
 
   -- and the output does not matter
-  pub early-any : (t : Taken) (left out : List ℕ) → Answered (reporting r area 0 (messages from ms)) area [] t left []
-      → Answered (reporting r area (length out) (messages from ms)) area out t left out
+  pub early-any : (t : Taken) (left out : List ℕ) → TakesMessages r from count area d p [] t left []
+      → TakesMessages r from count area d p out t left out
   unfolding frames
   early-any t left out e =
-      let f = rw (reports-early r area 0 from ms h a, l) at e in
-      rw (reports-early r area (length out) from ms h a, l)
+      let k = rw (reports-early r area 0 from ms h a, many) at e in
+      rw (reports-early r area (length out) from ms h a, many)
       (by-test (clash r (from + count - 1) false)
-      (λ c. let g = rw c at f in rw c (record { answer = g .answer; bytes = refl; slots = g .slots }))
-      (λ c. let g = rw c at f in rw c (record { answer = g .answer; bytes = refl; slots = g .slots })))
+      (λ c. let g = rw c at k in rw c (record { answer = g .answer; bytes = refl; slots = g .slots }))
+      (λ c. let g = rw c at k in rw c (record { answer = g .answer; bytes = refl; slots = g .slots })))

@@ -20,8 +20,8 @@ use Rattle.reports.specs.Reports.{Report, messages, topOf, isEnd}
 use Rattle.taking.specs.Taking.{own, delivered, holdingEarly, holding, after, Taking, outcome, taking}
 use Rattle.record.specs.declared.Record.{Record}
 use Rattle.wire.proofs.Tests.{or-right}
-use Rattle.taking.proofs.Reports.{Lies, reaches, ahead, passes, lies, among, early, late, early-held, none-held, delivers-many}
-use Rattle.taking.proofs.Reports.{delivers-none, holds-early}
+use Rattle.taking.proofs.EarlyOrLate.{Lies, reaches, ahead, passes, lies, among, early, late, early-held, none-held, delivers-many}
+use Rattle.taking.proofs.EarlyOrLate.{delivers-none, holds-early}
 use Rattle.taking.proofs.Took.{took, takes}
 use Rattle.taking.proofs.Kept.{taking-hangs, taking-sound}
 
@@ -45,8 +45,8 @@ module _ (r : Record) (area : List ℕ) (h : hangs r ≡ true) where
       let e = early (r .next .0) first ms a in
       rw (delivers-none r area (messages first ms) h e, add-zero (r .next .0)) e
   none-own report (reaches first ms a b) =
-      let n : length (own (r .next .0) (messages first ms)) ≡ length ms - (r .next .0 - first) = rw (among (r .next .0) first ms a b)
-      (length-drop (r .next .0 - first) ms) in
+      let n : length (own (r .next .0) (messages first ms)) ≡ length ms - (r .next .0 - first) =
+      rw (among (r .next .0) first ms a b) (length-drop (r .next .0 - first) ms) in
       let m = delivers-many r area (messages first ms) in
       late (r .next .0 + length (delivered r area (messages first ms))) first ms (omega arith) (omega arith)
 
@@ -55,8 +55,8 @@ module _ (r : Record) (area : List ℕ) (h : hangs r ≡ true) where
   none-moves report e = rw (delivers-none r area report h e) (add-zero (r .next .0))
 
   -- what of it is held, is held already
-  held-already : (report : Report) → Lies (r .next .0) report → holdingEarly (after r area report .next .0) (holding r area report)
-      report ≡ holding r area report
+  held-already : (report : Report) → Lies (r .next .0) report
+      → holdingEarly (after r area report .next .0) (holding r area report) report ≡ holding r area report
   held-already report (passes _ e k) =
       let held = holding r area report in
       ap (λ (n : ℕ). holdingEarly n held report) (none-moves report e) ∙ k held
@@ -75,8 +75,10 @@ module _ (r : Record) (area : List ℕ) (h : hangs r ≡ true) where
       none-held (after r area (messages first ms) .next .0) first ms (omega arith) (holding r area (messages first ms))
 
   -- told the same again, a record delivers nothing, and it and the area are as they were
-  same-again : (report : Report) → hangs (after r area report) ≡ true → outcome (after r area report) (holding r area report .area)
-      report ≡ record { delivered = []; after = after r area report; area = holding r area report .area }
+  same-again : (report : Report) → hangs (after r area report) ≡ true
+      → (let now = after r area report in
+      let left = holding r area report .area in
+      outcome now left report ≡ record { delivered = []; after = now; area = left })
   same-again report k =
       let l = lies (r .next .0) report in
       let now = after r area report in
@@ -93,11 +95,11 @@ unfolding frames
 twice r area d room t b e more =
     let w = took r area d room t e in
     let report = w .report in
+    let now = after r area report in
+    let left = holding r area report .area in
     let g = w .reported .gives in
-    let h : hangs (after r area report) ≡ true = rw g at (taking-hangs r area d room t b e) in
-    let s : sound (after r area report .held) (holding r area report .area) ≡ true = rw g at (taking-sound r area d room t e) in
+    let h : hangs now ≡ true = rw g at (taking-hangs r area d room t b e) in
+    let s : sound (now .held) left ≡ true = rw g at (taking-sound r area d room t e) in
     let a = agreed (r .ended) (isEnd report) (r .top .0) (topOf report) (w .reported .agrees) in
-    let n = delivers-none (after r area report) (holding r area report .area) report h
-    (none-own r area (w .hangs) report (lies (r .next .0) report)) in
-    rw g (takes (after r area report) (holding r area report .area) d more report h s (w .reports) a (rw n (omega arith))
-    ∙ ap taken (same-again r area (w .hangs) report h))
+    let n = delivers-none now left report h (none-own r area (w .hangs) report (lies (r .next .0) report)) in
+    rw g (takes now left d more report h s (w .reports) a (rw n (omega arith)) ∙ ap taken (same-again r area (w .hangs) report h))

@@ -1,3 +1,4 @@
 pub mod Room
-pub mod Handing
+pub mod Delivering
+pub mod Ways
 pub mod Taking

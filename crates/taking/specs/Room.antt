@@ -12,7 +12,7 @@ ufoRoom = 47104
 abbrev pub memxRoom : ℕ
 memxRoom = 54604
 
--- by a record's session
+-- by a record's session; Room.room-enough: with so much nothing is refused for want of room
 abbrev pub roomFor : Session → ℕ
 roomFor (Ufo name) = ufoRoom
 roomFor (Memx id) = memxRoom

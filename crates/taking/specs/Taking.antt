@@ -25,32 +25,36 @@ clash r top final = r .ended && not (top atMost r .top .0) || final && not (r .t
 abbrev pub contradicts : Record → Report → Bool
 contradicts r report = clash r (topOf report) (isEnd report)
 
--- where the first number is at most N and the last at least N: the packet's own messages from N on
+-- where the first number is at most N and the last at least N: the packet's own messages from N on; Numbered.others-deliver-nothing
 abbrev pub own : ℕ → Report → List (List ℕ)
 own next (messages first ms) =
     if first atMost next && next atMost topOf (messages first ms) then drop (next - first) ms else []
 own next (news highest) = []
 own next (end total) = []
 
--- its own messages go out, and their slots fall free; then what is held from there on
+-- its own messages go out, and their slots fall free; then what is held from there on; Numbered.delivers-by-number: each by its number
 abbrev pub delivered : Record → List ℕ → Report → List (List ℕ)
 delivered r area report =
     let ms = own (r .next .0) report in
     ms ++ released (freedFrom (length ms) (r .held) (r .next .0)) area (r .next .0 + length ms)
 
--- messages that come early are held
+-- messages that come early are held; Numbered.holds-by-number: each by its number
 abbrev pub holdingEarly : ℕ → Holding → Report → Holding
 holdingEarly next h (messages first ms) = if first atMost next then h else holdAll next h first ms
 holdingEarly next h (news highest) = h
 holdingEarly next h (end total) = h
 
--- the slots of all that goes out fall free, and keep their bytes
-abbrev pub holding : Record → List ℕ → Report → Holding
-holding r area report =
-    let held = freedFrom (length (delivered r area report)) (r .held) (r .next .0) in
-    holdingEarly (r .next .0) (record { held = held; area = area }) report
+-- the slots of all that goes out fall free, and keep their bytes; Growing.never-forgets: nothing else is forgotten
+abbrev pub freedBy : Record → List ℕ → Report → Holding
+freedBy r area report = record {
+  held = freedFrom (length (delivered r area report)) (r .held) (r .next .0);
+  area = area;
+}
 
--- T becomes the larger of the two, and an end marks the record ended
+abbrev pub holding : Record → List ℕ → Report → Holding
+holding r area report = holdingEarly (r .next .0) (freedBy r area report) report
+
+-- T becomes the larger of the two, and an end marks the record ended; Growing.never-falls: neither goes back
 abbrev pub told : Record → (next held top : ℕ) → Bool → Record
 told r next held top final = record {
   session = r .session;
@@ -91,7 +95,7 @@ reporting r area room report = checked (reportChecks r area room report) (taken 
 abbrev pub broken : Record → List ℕ → List Check
 broken r area = (hangs r else 10) ∷ (sound (r .held) area else 10) ∷ []
 
--- the order of refusals: 10; the reader's; 16; 11; 12; 9
+-- the order of refusals: 10; the reader's; 16; 11; 12; 9: Order; Kept.taking-hangs, taking-sound: what is left hangs together
 unfoldable pub taking : Record → List ℕ → List ℕ → ℕ → Verdict Taking
 taking r area d room = checked (broken r area) (reportOf (r .session) d into reporting r area room)
 

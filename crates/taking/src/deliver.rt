@@ -7,18 +7,12 @@ use wire::output::Written;
 use wire::refusal;
 ghost use lib.ListN.{length};
 ghost use Rattle.wire.specs.Reply.{Settled};
-ghost use Rattle.taking.specs.Handing.{handedOwn, handed, Handed};
-
-pub(crate) enum Delivered {
-    Refused(u8),
-    // How many of them were held.
-    Bytes { bytes: usize, released: u32 },
-}
+ghost use Rattle.taking.specs.Delivering.{handedOwn, handed, Handed};
 
 // Where nothing is held.
 pub(crate) fn deliver_own(datagram: &[u8], place: usize, k: u64, out: &mut [u8]) -> Written
-    ensures { λ r. ⌜ Settled (handedOwn k (now (datagram .entry)) place (length (now (out .entry)))) (now (out .entry)) r (now (out .exit))
-        ⌝ }
+    ensures { λ r. ⌜ Settled (handedOwn k (now (datagram .entry)) place (length (now (out .entry))))
+        (now (out .entry)) r (now (out .exit)) ⌝ }
 {
     let start = blocks::skip(datagram, place, k);
     match start {
@@ -34,6 +28,7 @@ pub(crate) fn deliver_own(datagram: &[u8], place: usize, k: u64, out: &mut [u8])
     }
 }
 
+// How many were held and are released, and the bytes of all that is delivered.
 pub(crate) fn deliver(
     datagram: &[u8],
     place: usize,
@@ -42,23 +37,23 @@ pub(crate) fn deliver(
     number: u64,
     area: &[u8],
     out: &mut [u8],
-) -> Delivered
+) -> Released
     ensures { λ r. ⌜ Handed (handed k (now (datagram .entry)) place held (now (area .entry)) number (length (now (out .entry))))
         (now (out .entry)) r (now (out .exit)) ⌝ }
 {
     let start = blocks::skip(datagram, place, k);
     match start {
-        Place::Refused(number) => Delivered::Refused(number),
+        Place::Refused(number) => Released::Refused(number),
         Place::At(from) => {
             let own = datagram.len() - from;
             let given = release(held, number, area, out, own);
             match given {
-                Released::Refused(number) => Delivered::Refused(number),
+                Released::Refused(number) => Released::Refused(number),
                 Released::Messages { messages, bytes } => {
                     output::copy(out, 0, datagram, from, own);
-                    Delivered::Bytes {
+                    Released::Messages {
+                        messages,
                         bytes: own + bytes,
-                        released: messages,
                     }
                 }
             }

@@ -12,8 +12,8 @@ ghost use mathlib.Core.Bool.{true};
 ghost use mathlib.Core.List.{[]};
 ghost use Rattle.held.specs.Holding.{holdAll, Held};
 ghost use Rattle.record.specs.Record.{hangs};
-ghost use Rattle.reports.specs.Reports.{messages, Fills, blocksFrom};
-ghost use Rattle.taking.specs.Taking.{reporting, Answered};
+ghost use Rattle.reports.specs.Reports.{Fills, blocksFrom};
+ghost use Rattle.taking.specs.Ways.{TakesMessages};
 
 // Each message is tried at its slot; the bitmap afterwards.
 fn hold_each(
@@ -26,8 +26,8 @@ fn hold_each(
     place: usize,
 ) -> u32
     requires { ⌜ Fills (now datagram) place first count ⌝ }
-    ensures { λ r. ⌜ Held (holdAll next (record { held = held; area = now (area .entry) }) first
-        (blocksFrom (now (datagram .entry)) place count)) r (now (area .exit)) ⌝ }
+    ensures { λ r. ⌜ Held (holdAll next (record { held = held; area = now (area .entry) })
+        first (blocksFrom (now (datagram .entry)) place count)) r (now (area .exit)) ⌝ }
 {
     let mut kept = held;
     let mut at = place;
@@ -53,6 +53,7 @@ fn hold_each(
     kept
 }
 
+// Nothing goes out, so there is no output.
 pub(crate) fn hold_early(
     kept: Record,
     first: u64,
@@ -62,8 +63,8 @@ pub(crate) fn hold_early(
     place: usize,
 ) -> Taken
     requires { ⌜ (hangs kept ≡ true) × Fills (now datagram) place first count × (kept .next .0 < first) ⌝ }
-    ensures { λ r. ⌜ Answered (reporting kept (now (area .entry)) 0 (messages first (blocksFrom (now (datagram .entry)) place count)))
-        (now (area .entry)) [] r (now (area .exit)) [] ⌝ }
+    ensures { λ r. ⌜ TakesMessages kept first count (now (area .entry)) (now (datagram .entry)) place []
+        r (now (area .exit)) [] ⌝ }
 {
     let next = kept.next;
     let past = first + count as u64;

@@ -3,13 +3,13 @@ mod deliver;
 mod early;
 mod tell;
 
-use crate::deliver::Delivered;
 use crate::deliver::deliver;
 use crate::deliver::deliver_own;
 use crate::early::hold_early;
 use crate::tell::contradicts;
 use crate::tell::tell;
 use held::hanging::is_whole;
+use held::releasing::Released;
 use held::slots::free_from;
 use record::Record;
 use record::hangs::is_well_kept;
@@ -24,9 +24,9 @@ ghost use Prim.Native.Nat.{_+_, _≤_, _<_};
 ghost use lib.ListN.{length};
 ghost use Rattle.held.specs.Hanging.{sound};
 ghost use Rattle.record.specs.Record.{hangs};
-ghost use Rattle.reports.specs.Reports.{messages, Fills, blocksFrom};
-ghost use Rattle.taking.specs.Taking.{reporting, taking, takenOf, Answered};
-ghost use Rattle.taking.specs.Handing.{passing};
+ghost use Rattle.reports.specs.Reports.{Fills};
+ghost use Rattle.taking.specs.Taking.{taking, takenOf, Answered};
+ghost use Rattle.taking.specs.Ways.{passing, TakesMessages};
 
 pub enum Taken {
     Refused(u8),
@@ -62,10 +62,10 @@ fn hand_over_own(
     place: usize,
     out: &mut [u8],
 ) -> Taken
-    requires { ⌜ (kept .held ≡ 0) × Fills (now datagram) place first count × (first ≤ kept .next .0) × (kept .next .0 < first + count) ⌝ }
-    ensures { λ r. ⌜ Answered (reporting kept (now (area .entry)) (length (now (out .entry)))
-        (messages first (blocksFrom (now (datagram .entry)) place count))) (now (area .entry)) (now (out .entry)) r (now (area .entry))
-        (now (out .exit)) ⌝ }
+    requires { ⌜ (kept .held ≡ 0) × Fills (now datagram) place first count
+        × (first ≤ kept .next .0) × (kept .next .0 < first + count) ⌝ }
+    ensures { λ r. ⌜ TakesMessages kept first count (now (area .entry)) (now (datagram .entry)) place (now (out .entry))
+        r (now (area .entry)) (now (out .exit)) ⌝ }
 {
     let next = kept.next;
     let past = first + count as u64;
@@ -99,9 +99,8 @@ fn hand_over(
 ) -> Taken
     requires { ⌜ (hangs kept ≡ true) × (sound (kept .held) (now area) ≡ true) × Fills (now datagram) place first count
         × (first ≤ kept .next .0) × (kept .next .0 < first + count) ⌝ }
-    ensures { λ r. ⌜ Answered (reporting kept (now (area .entry)) (length (now (out .entry)))
-        (messages first (blocksFrom (now (datagram .entry)) place count))) (now (area .entry)) (now (out .entry)) r (now (area .entry))
-        (now (out .exit)) ⌝ }
+    ensures { λ r. ⌜ TakesMessages kept first count (now (area .entry)) (now (datagram .entry)) place (now (out .entry))
+        r (now (area .entry)) (now (out .exit)) ⌝ }
 {
     let next = kept.next;
     let past = first + count as u64;
@@ -111,8 +110,11 @@ fn hand_over(
     let held = free_from(kept.held, next.0, past - next.0);
     let given = deliver(datagram, place, next.0 - first, held, past, area, out);
     match given {
-        Delivered::Refused(number) => Taken::Refused(number),
-        Delivered::Bytes { bytes, released } => {
+        Released::Refused(number) => Taken::Refused(number),
+        Released::Messages {
+            messages: released,
+            bytes,
+        } => {
             let reached = past + released as u64;
             let messages = (reached - next.0) as u32;
             let free = free_from(held, past, released as u64);
@@ -137,9 +139,8 @@ fn take_held(
     out: &mut [u8],
 ) -> Taken
     requires { ⌜ (hangs kept ≡ true) × (sound (kept .held) (now area) ≡ true) × Fills (now datagram) place first count ⌝ }
-    ensures { λ r. ⌜ Answered (reporting kept (now (area .entry)) (length (now (out .entry)))
-        (messages first (blocksFrom (now (datagram .entry)) place count))) (now (area .entry)) (now (out .entry)) r (now (area .exit))
-        (now (out .exit)) ⌝ }
+    ensures { λ r. ⌜ TakesMessages kept first count (now (area .entry)) (now (datagram .entry)) place (now (out .entry))
+        r (now (area .exit)) (now (out .exit)) ⌝ }
 {
     let next = kept.next;
     let past = first + count as u64;
@@ -163,9 +164,8 @@ fn take_messages(
     out: &mut [u8],
 ) -> Taken
     requires { ⌜ (hangs kept ≡ true) × (sound (kept .held) (now area) ≡ true) × Fills (now datagram) place first count ⌝ }
-    ensures { λ r. ⌜ Answered (reporting kept (now (area .entry)) (length (now (out .entry)))
-        (messages first (blocksFrom (now (datagram .entry)) place count))) (now (area .entry)) (now (out .entry)) r (now (area .exit))
-        (now (out .exit)) ⌝ }
+    ensures { λ r. ⌜ TakesMessages kept first count (now (area .entry)) (now (datagram .entry)) place (now (out .entry))
+        r (now (area .exit)) (now (out .exit)) ⌝ }
 {
     let next = kept.next;
     let past = first + count as u64;
@@ -182,8 +182,8 @@ fn take_messages(
 
 // The datagram is gone over three times at most: read, skipped to the next message, copied from there.
 pub fn take(kept: Record, area: &mut [u8], datagram: &[u8], out: &mut [u8]) -> Taken
-    ensures { λ r. ⌜ Answered (taking kept (now (area .entry)) (now (datagram .entry)) (length (now (out .entry)))) (now (area .entry))
-        (now (out .entry)) r (now (area .exit)) (now (out .exit)) ⌝ }
+    ensures { λ r. ⌜ Answered (taking kept (now (area .entry)) (now (datagram .entry)) (length (now (out .entry))))
+        (now (area .entry)) (now (out .entry)) r (now (area .exit)) (now (out .exit)) ⌝ }
 {
     if !is_well_kept(kept) {
         return Taken::Refused(refusal::BROKEN);

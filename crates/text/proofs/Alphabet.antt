@@ -65,8 +65,7 @@ stands b e = rw runs (by (either (48 atMost b && b atMost 57 || 65 atMost b && b
 is-one : (b : ℕ) → List·Memᴰ b (run 48 10 ++ (run 65 26 ++ run 97 26)) → letterOrDigit b ≡ true
 unfolding letterOrDigit
 is-one b m = by (List·Memᴰ·append-cases (run 48 10) m) where
-  letter : List·Memᴰ b (run 65 26) ⊎ List·Memᴰ b (run 97 26) → 48 atMost b && b atMost 57 || 65 atMost b && b atMost 90 || 97 atMost b &&
-      b atMost 122 ≡ true
+  letter : List·Memᴰ b (run 65 26) ⊎ List·Memᴰ b (run 97 26) → letterOrDigit b ≡ true
   letter (inl k) = let h = run-in b 65 26 k in
       rw (le-leb 48 b (omega arith), lt-leb b 57 (omega arith), le-leb 65 b (omega arith), le-leb b 90 (omega arith))
   letter (inr k) = let h = run-in b 97 26 k in
@@ -75,13 +74,11 @@ is-one b m = by (List·Memᴰ·append-cases (run 48 10) m) where
         lt-leb b 57 (omega arith),
         le-leb 65 b (omega arith),
         lt-leb b 90 (omega arith),
-        le-leb 97 b
-            (omega arith),
+        le-leb 97 b (omega arith),
         le-leb b 122 (omega arith),
       )
 
-  by : List·Memᴰ b (run 48 10) ⊎ List·Memᴰ b (run 65 26 ++ run 97 26) → 48 atMost b && b atMost 57 || 65 atMost b && b atMost 90 ||
-      97 atMost b && b atMost 122 ≡ true
+  by : List·Memᴰ b (run 48 10) ⊎ List·Memᴰ b (run 65 26 ++ run 97 26) → letterOrDigit b ≡ true
   by (inl k) = let h = run-in b 48 10 k in rw (le-leb 48 b (omega arith), le-leb b 57 (omega arith))
   by (inr k) = letter (List·Memᴰ·append-cases (run 65 26) k)
 

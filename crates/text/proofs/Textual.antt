@@ -33,8 +33,7 @@ letter-high b e =
       lt-leb b 57 (omega arith),
       le-leb 65 b (omega arith),
       lt-leb b 90 (omega arith),
-      le-leb 97 b
-          (omega arith),
+      le-leb 97 b (omega arith),
       lt-leb b 122 (omega arith),
     ) in
     absurd (true≢false (sym e ∙ none)))

@@ -5,7 +5,7 @@ use mathlib.Core.List.{List, [], _∷_}
 use mathlib.Core.Bool.{Bool, true, _&&_, _||_}
 use Rattle.wire.specs.Checks.{if_then_else_, _is_, _atMost_}
 
--- 0 to 9, A to Z, a to z
+-- 0 to 9, A to Z, a to z; Alphabet shows that they are the sixty-two
 unfoldable pub letterOrDigit : ℕ → Bool
 letterOrDigit b =
     48 atMost b && b atMost 57

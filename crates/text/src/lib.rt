@@ -86,6 +86,7 @@ pub fn is_name_then_spaces(n: Name) -> bool
     is_text_then_spaces(&b)
 }
 
+// No caller yet: SoupTCP names a session so, padded on the left, and a record of one is to be opened by that name.
 pub fn is_spaces_then_name(n: Name) -> bool
     ensures { λ r. ⌜ r ≡ spacesThenText (nameBytes n) ⌝ }
 {

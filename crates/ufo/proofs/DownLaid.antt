@@ -42,13 +42,13 @@ pub length-laid : (first count : ℕ) (blocks : List ℕ) → length (laid first
 length-laid first count blocks = simp (length-append, length-bytesOf) (omega arith)
 
 -- the fields and the blocks, stored one after the other, are the packet
-pub laid-stored : (first count : ℕ) (blocks out : List ℕ) → sets (sets (sets (set out 0 83) 1 (bytesOf 4 first)) 5 (bytesOf 2 count)) 7
-    blocks ≡ sets out 0 (laid first count blocks)
+pub laid-stored : (first count : ℕ) (blocks out : List ℕ)
+    → sets (sets (sets (set out 0 83) 1 (bytesOf 4 first)) 5 (bytesOf 2 count)) 7 blocks ≡ sets out 0 (laid first count blocks)
 unfolding bytesOf
 laid-stored first count blocks out = refl
 
-pub laid-accept : (session : List ℕ) (next : ℕ) → length session ≡ 10 → next < 2 ^ 32 → read (write (accept session next)) ≡ checked
-    (ofAccept session next) (taken (accept session next))
+pub laid-accept : (session : List ℕ) (next : ℕ) → length session ≡ 10 → next < 2 ^ 32
+    → read (write (accept session next)) ≡ checked (ofAccept session next) (taken (accept session next))
 unfolding read readA
 laid-accept session next l h =
     let t = bytesOf 4 next in
@@ -66,8 +66,7 @@ laid-messages first count blocks h k =
     rw (
       length-laid first count blocks,
       ne-eqb (7 + length blocks) 0 (λ e. omega arith),
-      le-leb 7 (7 + length blocks)
-          (omega arith),
+      le-leb 7 (7 + length blocks) (omega arith),
       be-bytesOf 4 first (bytesOf 2 count ++ blocks) h,
       be-bytesOf 2 count blocks k,
     )

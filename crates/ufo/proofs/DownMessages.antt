@@ -1,4 +1,4 @@
--- What a datagram that was taken says: messages stand in its blocks from byte 7 on, and a total is within its bound.
+-- Messages that were taken stand in the datagram's blocks, from byte 7 on.
 -- Assumes nothing.
 use Prim.Native.Nat.{ℕ, _+_, _-_, _^_, _≤_, _<_}
 use mathlib.Core.Path.{_≡_, ap, sym, _∙_}
@@ -12,7 +12,7 @@ use Rattle.wire.proofs.Tests.{impossible, nonzero}
 use Rattle.wire.proofs.Width.{bytes-drop}
 use Rattle.blocks.specs.Blocks.{frames, whole, cut, messagesOf}
 use Rattle.blocks.proofs.Cutting.{frames-cut}
-use Rattle.ufo.specs.Down.{messages, end, firstS, countS, blocksS, totalE, read}
+use Rattle.ufo.specs.Down.{messages, firstS, countS, blocksS, read}
 use Rattle.blocks.proofs.Counting.{whole-is, count-cut}
 use Rattle.ufo.proofs.DownTaken.{Came, by-A, by-J, by-S, by-E, came}
 
@@ -46,11 +46,3 @@ module _ (d : List ℕ) (first : ℕ) (ms : List (List ℕ)) where
 
   pub carried : Bytes d → read d ≡ taken (messages first ms) → drop 7 d ≡ frames ms
   carried b e = sym (frames-cut (length ms) (drop 7 d) ms (bytes-drop 7 d b) (carries e .blocks) .0)
-
-pub ended : (d : List ℕ) (total : ℕ) → read d ≡ taken (end total) → total ≤ 2 ^ 32 - 2
-ended d total e = by (came d (end total) e .1) where
-  by : Came d (end total) → total ≤ 2 ^ 32 - 2
-  by (by-A k c q) = impossible cc
-  by (by-J k c q) = impossible cc
-  by (by-S k c q) = impossible cc
-  by (by-E k c q) = let t : totalE d ≡ total = cc in rw (← t) (leb-true (totalE d) (2 ^ 32 - 2) (c .1 .0))

@@ -21,8 +21,8 @@ unfolding read readA readJ readS readE
 came d p e =
     let k = kind d in
     let c = all-passed (opening d) (byKind d) p e in
-    let other = not-both (refused 3) 3 p refl in (
-      c .0,
-      came-by k 65 (checksA d) _ p _ by-A
-          (came-by k 74 (checksJ d) _ p _ by-J (came-by k 83 (checksS d) _ p _ by-S (came-by k 69 (checksE d) _ p _ by-E other))) (c .1),
-    )
+    let by-type = came-by k 65 (checksA d) _ p _ by-A
+    (came-by k 74 (checksJ d) _ p _ by-J
+    (came-by k 83 (checksS d) _ p _ by-S
+    (came-by k 69 (checksE d) _ p _ by-E (not-both (refused 3) 3 p refl)))) in
+    (c .0, by-type (c .1))

@@ -3,5 +3,4 @@ pub mod DownLaid
 pub mod DownTaken
 pub mod Exact
 pub mod DownMessages
-pub mod DownView
 mod Settled

@@ -32,7 +32,7 @@ write (reject reason) = 74 ∷ reason ∷ []
 write (messages first ms) = laid first (length ms) (frames ms)
 write (end total) = 69 ∷ bytesOf 4 total
 
--- the lawful packets
+-- the lawful packets; `Exact` shows that these are read as they were written, and no others
 pub record FitAccept (session : List ℕ) (next : ℕ) : Type 0 where
   pub ten : length session ≡ 10
   pub letters : textThenSpaces session ≡ true
@@ -123,6 +123,7 @@ byKind d =
     if kind d is 69 then readE d else
     refused 3
 
+-- what the desk says to a datagram; `Order` shows it as one list of checks, in the readers' order
 unfoldable pub read : List ℕ → Verdict Packet
 read d = checked (opening d) (byKind d)
 

@@ -83,8 +83,7 @@ module _ (out : List ℕ) (used : ℕ) (g : Begun out used) where
         rw (
           le-leb used (length out) (g .inside),
           g .begun .is,
-          read-over (take used out) (writeMessage (cappedIn m))
-              (omega (arith, length-frame (writeMessage m))),
+          read-over (take used out) (writeMessage (cappedIn m)) (omega (arith, length-frame (writeMessage m))),
         )
 
     pub add-behind : leb (length (frame (writeMessage m))) (limit - used) ≡ true

@@ -12,22 +12,8 @@ use Rattle.blocks.specs.Blocks.{frame, frames, whole, upstream, Each, Full}
 use Rattle.blocks.proofs.Frames.{length-frame, frames-one, frames-append, short-frames}
 use Rattle.blocks.proofs.Cutting.{upstream-frames}
 use Rattle.ufo_up.specs.Up.{Message, writeMessage, writeUp, FitAll, readMessage, readEach, readCut, readUp}
-use Rattle.ufo_up.proofs.UpPacket.{opened}
+use Rattle.ufo_up.proofs.UpPacket.{opened, each-append}
 use Rattle.ufo_up.proofs.Exact.{read-each, full-messages}
-
--- each message in turn, and then one more
-each-more : (bs : List (List ℕ)) (w : List ℕ)
-    → readEach (bs ++ (w ∷ [])) ≡ readEach bs into (λ ms. readMessage w into (λ x. taken (ms ++ (x ∷ []))))
-unfolding readEach
-each-more [] w = refl
-each-more (b ∷ bs) w = rw (each-more bs w) (by (readMessage b) (readEach bs) (readMessage w)) where
-  by : (u : Verdict Message) (v : Verdict (List Message)) (t : Verdict Message)
-      → u into (λ m. (v into (λ ms. t into (λ x. taken (ms ++ (x ∷ []))))) into (λ ms. taken (m ∷ ms)))
-      ≡ (u into (λ m. v into (λ ms. taken (m ∷ ms)))) into (λ ms. t into (λ x. taken (ms ++ (x ∷ []))))
-  by (refused n) v t = refl
-  by (taken m) (refused n) t = refl
-  by (taken m) (taken ms) (refused n) = refl
-  by (taken m) (taken ms) (taken x) = refl
 
 full-more : (bs : List (List ℕ)) (w : List ℕ) → Each Full bs → 0 < length w → Each Full (bs ++ (w ∷ []))
 full-more [] w f h = (h, tt)
@@ -44,6 +30,7 @@ module _ (p w : List ℕ) where
 
 pub read-behind : (ms : List Message) (w : List ℕ) → FitAll ms → 0 < length w → length (writeUp ms) + (2 + length w) ≤ limit
     → readUp (writeUp ms ++ frame w) ≡ readMessage w into (λ x. taken (ms ++ (x ∷ [])))
+unfolding readEach
 read-behind ms w f h l =
     let bs = map writeMessage ms ++ (w ∷ []) in
     let same : frames bs ≡ writeUp ms ++ frame w = frames-append (map writeMessage ms) (w ∷ []) ∙ rw (frames-one w) in
@@ -51,5 +38,9 @@ read-behind ms w f h l =
     let some : 0 < length bs = rw length-append (omega arith) in
     let u : upstream (frames bs) ≡ whole bs = upstream-frames bs some (short-frames bs (omega arith))
     (full-more (map writeMessage ms) w (full-messages ms) h) in
-    rw (← same) (opened (frames bs) (λ z. omega arith) (omega arith) ∙ ap readCut u ∙ each-more (map writeMessage ms) w
-    ∙ rw (read-each ms f))
+    rw (← same) (opened (frames bs) (λ z. omega arith) (omega arith) ∙ ap readCut u ∙ each-append (map writeMessage ms) (w ∷ [])
+    ∙ rw (read-each ms f) (by (readMessage w))) where
+      by : (v : Verdict Message)
+          → (v into (λ x. taken (x ∷ []))) into (λ os. taken (ms ++ os)) ≡ v into (λ x. taken (ms ++ (x ∷ [])))
+      by (refused n) = refl
+      by (taken x) = refl

@@ -1,5 +1,5 @@
--- What is added to nothing, message by message, is what writes the messages together; and whatever is made is a packet that the reader
--- takes.
+-- What is added to nothing, message by message, is the messages written together; whatever is made is a packet that the reader takes, and a
+-- lawful packet that has room is made.
 -- Assumes nothing.
 use Prim.Native.Nat.{ℕ, _+_, _≤_}
 use mathlib.Core.List.{List, [], _∷_, _++_, map, append-assoc, append-nil}
@@ -34,8 +34,8 @@ module _ (m : Message) (out : List ℕ) (used : ℕ) (q : List ℕ) where
     pub bytes : take used out ++ frame (writeMessage m) ≡ q
     pub read : Took (readUp q)
 
-  settled : (v : Verdict (List Message)) → verdictAfter (take used out) m ≡ v → settle v (take used out ++ frame (writeMessage m))
-      (length out) ≡ taken q → Made
+  settled : (v : Verdict (List Message)) → verdictAfter (take used out) m ≡ v
+      → settle v (take used out ++ frame (writeMessage m)) (length out) ≡ taken q → Made
   unfolding verdictAfter
   settled (refused n) e t = not-both (refused n) n q refl t
   settled (taken ms) e t =

@@ -28,7 +28,8 @@ soFar s = if length s is 0 then taken [] else readUp s
 unfoldable pub verdictAfter : List ℕ → Message → Verdict (List Message)
 verdictAfter s m = readUp (s ++ frame (writeMessage (cappedIn m))) into (λ ms. checked ((heldIn m else 7) ∷ []) (taken ms))
 
--- a mark past the output's end is 4; then the reader's word on what stands there, then on the whole, and then the room decide
+-- a mark past the output's end is 4; then the reader's word on what stands there, then on the whole, and then the room decide. `Composed`
+-- shows that what is added to nothing, message by message, is `writeUp` of the messages
 unfoldable pub addReply : Message → List ℕ → ℕ → Reply
 addReply m out used =
     checked ((used atMost length out else 4) ∷ [])

@@ -57,8 +57,8 @@ fn fits(message: Message, data: &[u8], room: usize) -> bool
 
 // The message's block, from the output's start.
 fn write_message(message: Message, data: &[u8], out: &mut [u8]) -> Written
-    ensures { λ r. ⌜ Settled (reply (messageOf message (now («data» .entry))) (length (now (out .entry)))) (now (out .entry)) r
-        (now (out .exit)) ⌝ }
+    ensures { λ r. ⌜ Settled (reply (messageOf message (now («data» .entry))) (length (now (out .entry))))
+        (now (out .entry)) r (now (out .exit)) ⌝ }
 {
     match message {
         Message::Login {
@@ -86,8 +86,8 @@ pub fn read_so_far(s: &[u8]) -> Upstream
 // The output's first `used` bytes are a packet so far, or nothing; the message is written behind them, and the answer counts
 // the whole. `data` is what an unsequenced message carries: for any other it is not looked at.
 pub fn add_message(message: Message, data: &[u8], out: &mut [u8], used: usize) -> Written
-    ensures { λ r. ⌜ Settled (addReply (messageOf message (now («data» .entry))) (now (out .entry)) used) (now (out .entry)) r
-        (now (out .exit)) ⌝ }
+    ensures { λ r. ⌜ Settled (addReply (messageOf message (now («data» .entry))) (now (out .entry)) used)
+        (now (out .entry)) r (now (out .exit)) ⌝ }
 {
     if out.len() < used {
         return Written::Refused(refusal::FRAMING);

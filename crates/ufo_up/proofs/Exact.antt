@@ -39,8 +39,8 @@ written-is-read ms f =
     opened (frames bs) (not-empty ms (f .some)) (f .short) ∙ ap readCut u ∙ read-each ms (f .all)
 
 -- writing what was read
-pub write-each : (bs : List (List ℕ)) → Each Bytes bs → (ms : List Message) → readEach bs ≡ taken ms → FitAll ms
-    × (map writeMessage ms ≡ bs)
+pub write-each : (bs : List (List ℕ)) → Each Bytes bs → (ms : List Message) → readEach bs ≡ taken ms
+    → FitAll ms × (map writeMessage ms ≡ bs)
 unfolding readEach
 write-each [] b ms e = let q : [] ≡ ms = cc in rw (← q) (tt, refl)
 write-each (s ∷ bs) b ms e = by (readMessage s) refl (readEach bs) refl (write-each bs (b .1)) where

@@ -9,4 +9,5 @@ pub mod Exact
 pub mod UpInTurn
 mod UpFinding
 pub mod UpOne
+pub mod UpLonger
 mod Settled

@@ -42,8 +42,8 @@ leftL u w s = (textThenSpaces u else 5) ∷ (textThenSpaces w else 5) ∷ (textT
 abbrev pub leftT : ℕ → ℕ → List Check
 leftT n c = (not (n is 0) else 6) ∷ (not (c is 0) else 6) ∷ []
 
-pub checks-login : (u w s : List ℕ) → length u ≡ 6 → length w ≡ 10 → length s ≡ 10 → readMessage (writeMessage (login u w s)) ≡ checked
-    (leftL u w s) (taken (login u w s))
+pub checks-login : (u w s : List ℕ) → length u ≡ 6 → length w ≡ 10 → length s ≡ 10
+    → readMessage (writeMessage (login u w s)) ≡ checked (leftL u w s) (taken (login u w s))
 unfolding readL
 checks-login u w s hu hw hs =
     let m = writeMessage (login u w s) in
@@ -54,8 +54,8 @@ checks-login u w s hu hw hs =
     let t : sessionL m ≡ s = rw c (take-all 10 s (omega arith)) in
     of-kind m 76 refl ∙ rw (eq-eqb (length m) 27 l, a, b, t)
 
-pub checks-request : (n c : ℕ) → n < 2 ^ 32 → c < 2 ^ 16 → readMessage (writeMessage (request n c)) ≡ checked (leftT n c)
-    (taken (request n c))
+pub checks-request : (n c : ℕ) → n < 2 ^ 32 → c < 2 ^ 16
+    → readMessage (writeMessage (request n c)) ≡ checked (leftT n c) (taken (request n c))
 unfolding readT
 checks-request n c hn hc =
     let m = writeMessage (request n c) in

@@ -1,6 +1,6 @@
 -- In a packet that is taken each message is read at the place where those before it end, up to the packet's end.
 -- Assumes nothing.
-use Prim.Native.Nat.{ℕ, _+_, _≤_}
+use Prim.Native.Nat.{ℕ, _+_}
 use mathlib.Core.List.{List, [], _∷_, _++_, map, map-append, append-assoc, append-nil}
 use mathlib.Core.Path.{_≡_, ap, sym, _∙_}
 use native.Mathlib.Nat.{zero-add}
@@ -21,7 +21,8 @@ pub write-append : (a b : List Message) → writeUp (a ++ b) ≡ writeUp a ++ wr
 write-append a b =
     ap frames (map-append writeMessage a b) ∙ frames-append (map writeMessage a) (map writeMessage b)
 
-fit-there : (a : List Message) (m : Message) (b : List Message) → FitAll (a ++ (m ∷ b)) → FitMessage m
+-- each of lawful messages is lawful
+pub fit-there : (a : List Message) (m : Message) (b : List Message) → FitAll (a ++ (m ∷ b)) → FitMessage m
 fit-there [] m b f = f .0
 fit-there (x ∷ a) m b f = fit-there a m b (f .1)
 
@@ -30,8 +31,8 @@ length-more a m =
     rw (write-append a (m ∷ []), frames-one (writeMessage m), length-append) (omega (arith, length-frame (writeMessage m)))
 
 -- of messages from `at` on, the one at the place where those before it end
-from-there : (at : ℕ) (a : List Message) (m : Message) (b : List Message) → messageFrom at (a ++ (m ∷ b)) (at + length (writeUp a)) ≡ taken
-    m
+from-there : (at : ℕ) (a : List Message) (m : Message) (b : List Message)
+    → messageFrom at (a ++ (m ∷ b)) (at + length (writeUp a)) ≡ taken m
 unfolding messageFrom
 from-there at [] m b = rw (eq-eqb at (at + length (writeUp [])) (omega (arith, frames-none)))
 from-there at (x ∷ a) m b =
@@ -44,11 +45,6 @@ from-there at (x ∷ a) m b =
 abbrev pub InTurn : List ℕ → ℕ → List Message → Type 0
 InTurn d p [] = p ≡ length d
 InTurn d p (m ∷ ms) = (messageIn d p ≡ taken m) × InTurn d (endAt d p) ms
-
--- the place lies inside all the while
-pub turn-inside : (d : List ℕ) (p : ℕ) (ms : List Message) → InTurn d p ms → p ≤ length d
-turn-inside d p [] t = omega arith
-turn-inside d p (m ∷ ms) t = omega (arith, turn-inside d (endAt d p) ms (t .1))
 
 module _ (d : List ℕ) (bytes : Bytes d) where
   -- what stands after the messages a

@@ -15,8 +15,8 @@ use Rattle.blocks.proofs.Frames.{length-frame, frames-one}
 use Rattle.blocks.proofs.Cutting.{upstream-frames}
 use Rattle.ufo_up.specs.Up.{readMessage, readEach, readUp}
 
-pub read-one : (m : List ℕ) → 0 < length m → readUp (frame m) ≡ checked ((2 + length m atMost limit else 2) ∷ [])
-    (readMessage m into λ x. taken (x ∷ []))
+pub read-one : (m : List ℕ) → 0 < length m
+    → readUp (frame m) ≡ checked ((2 + length m atMost limit else 2) ∷ []) (readMessage m into λ x. taken (x ∷ []))
 unfolding readUp readEach
 read-one m h =
     let some = ne-eqb (2 + length m) 0 (λ z. omega arith) in

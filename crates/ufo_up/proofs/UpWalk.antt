@@ -35,12 +35,11 @@ framed-at a m t h f =
       le-leb (endAt d (length a)) (length d) (omega arith),
       ne-eqb (stated (drop (length a) d)) 0 (λ q. omega arith),
       w,
-      front-first m t
-          h,
+      front-first m t h,
     )
 
-message-at : (bs : List (List ℕ)) (k : ℕ) → Each Short bs → Each Full bs → k < length bs → messageAt (frames bs) (placed bs k) ≡ readMessage
-    (getD bs k [])
+message-at : (bs : List (List ℕ)) (k : ℕ) → Each Short bs → Each Full bs → k < length bs
+    → messageAt (frames bs) (placed bs k) ≡ readMessage (getD bs k [])
 message-at bs k short full h =
     rw (frames-around bs k h)
     (framed-at (frames (take k bs)) (getD bs k []) (frames (drop (k + 1) bs)) (each-at Short bs k short h) (each-at Full bs k full h))
@@ -60,8 +59,8 @@ module _ (bs : List (List ℕ)) (k : ℕ) where
   counted-all h = rw (drop-of-length-le bs h) (ap packet.Messages (add-zero k))
 
   module _ (h : k < length bs) where
-    pub counted-more : (m : Message) → readMessage (getD bs k []) ≡ taken m → counted k (readEach (drop k bs)) ≡ counted (k + 1)
-        (readEach (drop (k + 1) bs))
+    pub counted-more : (m : Message) → readMessage (getD bs k []) ≡ taken m
+        → counted k (readEach (drop k bs)) ≡ counted (k + 1) (readEach (drop (k + 1) bs))
     unfolding readEach
     counted-more m e = rw (drop-cons bs k [] h, add-one, e) (by (readEach (drop (suc k) bs))) where
       by : (v : Verdict (List Message)) → counted k (v into (λ ms. taken (m ∷ ms))) ≡ counted (suc k) v

@@ -37,7 +37,7 @@ writeMessage logout = 79 ∷ []
 abbrev pub writeUp : List Message → List ℕ
 writeUp ms = frames (map writeMessage ms)
 
--- the most data that `U` carries
+-- the most data that `U` carries; `Limits` shows that with it a packet is full
 abbrev pub mostData : ℕ
 mostData = 1469
 
@@ -56,7 +56,8 @@ abbrev pub FitAll : List Message → Type 0
 FitAll [] = Unit
 FitAll (m ∷ ms) = FitMessage m × FitAll ms
 
--- which packets are lawful: one message or more, in at most 1,472 bytes
+-- which packets are lawful: one message or more, in at most 1,472 bytes; `Exact` shows that these are read as they were written, and no
+-- others
 pub record Fit (ms : List Message) : Type 0 where
   pub some : 0 < length ms
   pub all : FitAll ms
@@ -105,8 +106,7 @@ checksT m =
 unfoldable pub readT : List ℕ → Verdict Message
 readT m = checked (checksT m) (taken (request (firstT m) (countT m)))
 
--- data. More than the most is too long, whatever the packet: with the type byte and the block's length it would not
--- stand in one
+-- data. More than the most is too long, whatever the packet: with the type byte and the block's length it would not stand in one
 abbrev pub checksU : List ℕ → List Check
 checksU m = (length m atMost 1 + mostData else 4) ∷ []
 
@@ -142,7 +142,7 @@ abbrev pub readCut : Cut → Verdict (List Message)
 readCut torn = refused 4
 readCut (whole bs) = readEach bs
 
--- the packet's length comes first, then the blocks over all of it, then the messages
+-- the packet's length comes first, then the blocks over all of it, then the messages; `Order` shows it as one list of checks
 unfoldable pub readUp : List ℕ → Verdict (List Message)
 readUp d = checked (opening d) (readCut (upstream d))
 
@@ -163,7 +163,7 @@ messageFrom at [] place = refused 4
 messageFrom at (m ∷ ms) place =
     if at is place then taken m else messageFrom (at + 2 + length (writeMessage m)) ms place
 
--- the whole packet comes first, and then 4 where no block starts
+-- the whole packet comes first, and then 4 where no block starts; `UpInTurn` shows that its messages are found one after the other
 abbrev pub messageIn : List ℕ → ℕ → Verdict Message
 messageIn d place = readUp d into (λ ms. messageFrom 0 ms place)
 

@@ -22,13 +22,14 @@ module _ (out : List ℕ) where
   unfolding bytesOf
   laid-head size kind = refl
 
-  pub laid-login : (u : User) (w s : Name) → sets (sets (sets (sets out 0 (headed 27 76)) 3 (userBytes u)) 9 (nameBytes w)) 19
-      (nameBytes s) ≡ sets out 0 (frame (writeMessage (login (userBytes u) (nameBytes w) (nameBytes s))))
+  pub laid-login : (u : User) (w s : Name)
+      → sets (sets (sets (sets out 0 (headed 27 76)) 3 (userBytes u)) 9 (nameBytes w)) 19 (nameBytes s)
+      ≡ sets out 0 (frame (writeMessage (login (userBytes u) (nameBytes w) (nameBytes s))))
   unfolding bytesOf
   laid-login u w s = refl
 
-  pub laid-request : (n c : ℕ) → sets (sets (sets out 0 (headed 7 84)) 3 (bytesOf 4 n)) 7 (bytesOf 2 c) ≡ sets out 0
-      (frame (writeMessage (request n c)))
+  pub laid-request : (n c : ℕ)
+      → sets (sets (sets out 0 (headed 7 84)) 3 (bytesOf 4 n)) 7 (bytesOf 2 c) ≡ sets out 0 (frame (writeMessage (request n c)))
   unfolding bytesOf
   laid-request n c = refl
 

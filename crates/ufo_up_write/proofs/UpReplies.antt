@@ -46,8 +46,8 @@ reply-login u w s room hu hw hs =
     let l : length (writeMessage (login u w s)) ≡ 27 = simp (length-append, hu, hw, hs) refl in
     replies (leftL u w s) (login u w s) room (omega arith) (checks-login u w s hu hw hs)
 
-pub reply-request : (n c room : ℕ) → c < 2 ^ 16 → reply (request n c) room ≡ checked (leftT n c)
-    (checked ((held n else 7) ∷ []) (within room (frame (writeMessage (request n c)))))
+pub reply-request : (n c room : ℕ) → c < 2 ^ 16
+    → reply (request n c) room ≡ checked (leftT n c) (checked ((held n else 7) ∷ []) (within room (frame (writeMessage (request n c)))))
 reply-request n c room h =
     let k = capped n in
     let l : length (writeMessage (request k c)) ≡ 7 = simp (length-append, length-bytesOf) refl in
@@ -59,8 +59,8 @@ reply-request n c room h =
           (λ q. let z = eqb-true n 0 q in rw q (eq-eqb (capped n) 0 (omega arith)))
           (λ q. let z = eqb-false n 0 q in rw q (ne-eqb (capped n) 0 (λ e. z (omega arith))))
 
-pub reply-unsequenced : (b : List ℕ) (room : ℕ) → reply (unsequenced b) room ≡ checked ((length b atMost 1469 else 2) ∷ [])
-    (within room (frame (85 ∷ b)))
+pub reply-unsequenced : (b : List ℕ) (room : ℕ)
+    → reply (unsequenced b) room ≡ checked ((length b atMost 1469 else 2) ∷ []) (within room (frame (85 ∷ b)))
 unfolding reply verdict readUp
 reply-unsequenced b room =
     by-test (leb (length b) 1469)

@@ -29,5 +29,6 @@ heldIn logout = true
 unfoldable pub verdict : Message → Verdict (List Message)
 verdict m = readUp (frame (writeMessage (cappedIn m))) into (λ ms. checked ((heldIn m else 7) ∷ []) (taken ms))
 
+-- `UpReplies` shows the reply by the message's fields, and that a lawful one is written
 unfoldable pub reply : Message → ℕ → Reply
 reply m room = settle (verdict m) (frame (writeMessage m)) room

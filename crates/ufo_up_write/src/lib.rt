@@ -82,8 +82,8 @@ pub fn write_request(first: Sequence, count: u16, out: &mut [u8]) -> Written
 }
 
 pub fn write_unsequenced(data: &[u8], out: &mut [u8]) -> Written
-    ensures { λ r. ⌜ Settled (reply (unsequenced (now («data» .entry))) (length (now (out .entry)))) (now (out .entry)) r (now (out .exit))
-        ⌝ }
+    ensures { λ r. ⌜ Settled (reply (unsequenced (now («data» .entry))) (length (now (out .entry))))
+        (now (out .entry)) r (now (out .exit)) ⌝ }
 {
     let size = data.len();
     if DATA < size {

@@ -1,39 +1,19 @@
--- A lawful packet is written in bytes, and a writer writes it whenever the room is enough.
+-- A lawful packet is written whenever the room is enough.
 -- Assumes nothing.
-use Prim.Native.Nat.{ℕ, _≤_, _<_}
+use Prim.Native.Nat.{ℕ, _≤_}
 use mathlib.Core.Path.{_≡_, _∙_}
-use mathlib.Core.Logic.{_⊎_, inl, inr}
-use mathlib.Core.List.{List, [], _∷_, _++_}
+use mathlib.Core.List.{List}
 use native.Mathlib.Omega.{arith}
 use borrow.Author.Tests.{le-leb}
 use lib.ListN.{length}
-use Rattle.wire.specs.Fields.{bytesOf, Bytes}
 use Rattle.wire.specs.Checks.{taken}
 use Rattle.wire.specs.Reply.{Reply, within}
 use Rattle.wire.proofs.Settling.{enough-room}
-use Rattle.text.proofs.Textual.{text-bytes}
-use Rattle.wire.proofs.Width.{bytes-bytesOf, bytes-cons, bytes-append}
 use Rattle.blocks.specs.Blocks.{frames}
-use Rattle.blocks.proofs.Frames.{bytes-frames}
 use Rattle.ufo.specs.Numbers.{highest, capped}
 use Rattle.ufo.specs.Down.{Packet, accept, reject, messages, end, write, Fit, read}
 use Rattle.ufo_write.specs.WriteDown.{reply, acceptReply, rejectReply, messagesReply, endReply}
 use Rattle.ufo.proofs.Exact.{written-is-read}
-
-pub bytes-write : (p : Packet) → Fit p → Bytes (write p)
-bytes-write (accept session next) f =
-    bytes-cons 65 (session ++ bytesOf 4 next) (omega arith)
-    (bytes-append session (bytesOf 4 next) (text-bytes session (f .letters)) (bytes-bytesOf 4 next))
-bytes-write (reject reason) f = bytes-cons 74 (reason ∷ []) (omega arith) (bytes-cons reason [] (by f) (λ i. omega arith)) where
-  by : (reason ≡ 65) ⊎ (reason ≡ 83) → reason < 256
-  by (inl e) = omega arith
-  by (inr e) = omega arith
-bytes-write (messages first ms) f =
-    let n = bytesOf 2 (length ms) in
-    bytes-cons 83 (bytesOf 4 first ++ (n ++ frames ms)) (omega arith)
-    (bytes-append (bytesOf 4 first) (n ++ frames ms) (bytes-bytesOf 4 first)
-    (bytes-append n (frames ms) (bytes-bytesOf 2 (length ms)) (bytes-frames ms (f .bytes))))
-bytes-write (end total) f = bytes-cons 69 (bytesOf 4 total) (omega arith) (bytes-bytesOf 4 total)
 
 -- what is replied to the fields of a packet
 abbrev pub replyTo : Packet → ℕ → Reply

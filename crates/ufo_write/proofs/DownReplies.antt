@@ -48,8 +48,8 @@ unfolding rejectReply
 reject-reply reason room =
     rw (laid-reject reason) (settle-checked (ofReject reason) (taken (reject reason)) (write (reject reason)) room)
 
-pub messages-reply : (first count : ℕ) (blocks : List ℕ) (room : ℕ) → count < 2 ^ 16 → messagesReply first count blocks room ≡ checked
-    (ofMessages first count blocks) (within room (laid first count blocks))
+pub messages-reply : (first count : ℕ) (blocks : List ℕ) (room : ℕ) → count < 2 ^ 16
+    → messagesReply first count blocks room ≡ checked (ofMessages first count blocks) (within room (laid first count blocks))
 unfolding messagesReply
 messages-reply first count blocks room k =
     numbered (λ n. laid n count blocks) (λ n. ofMessages n count blocks) (λ n. messages n (messagesOf (cut count blocks)))
@@ -57,8 +57,7 @@ messages-reply first count blocks room k =
     (λ h. rw (
       ne-eqb first 0 (λ e. omega arith),
       lt-leb (first + count) (2 ^ 32 - 1) (omega arith),
-      alike
-          (leb (2 ^ 32 - 1 + count) (2 ^ 32 - 1)) (refused 7),
+      alike (leb (2 ^ 32 - 1 + count) (2 ^ 32 - 1)) (refused 7),
     )) where
       alike : (b : Bool) (v : Reply) → if b then v else v ≡ v
       alike true v = refl

@@ -7,8 +7,9 @@ use Rattle.wire.specs.Reply.{Reply, settle}
 use Rattle.ufo.specs.Numbers.{held, capped}
 use Rattle.ufo.specs.Down.{Packet, accept, reject, end, laid, write, read}
 
--- what the reader says of the packet that `lay` makes of a number. One that the field can't hold is above its bound:
--- that is 7, in its place after all else that the reader refuses
+-- what the reader says of the packet that `lay` makes of a number. One that the field can't hold is above its bound: that is 7, in its
+-- place after all else that the reader refuses. `DownReplies` shows each reply by the packet's fields, `DownLawful` that a lawful packet is
+-- written
 abbrev pub verdict : (ℕ → List ℕ) → ℕ → Verdict Packet
 verdict lay n = read (lay (capped n)) into (λ p. checked ((held n else 7) ∷ []) (taken p))
 

@@ -13,8 +13,8 @@ use wire::output::Written;
 use wire::refusal;
 
 pub fn write_accept(session: Name, next: Sequence, out: &mut [u8]) -> Written
-    ensures { λ r. ⌜ Settled (acceptReply (nameBytes session) (next .0) (length (now (out .entry)))) (now (out .entry)) r (now (out .exit))
-        ⌝ }
+    ensures { λ r. ⌜ Settled (acceptReply (nameBytes session) (next .0) (length (now (out .entry))))
+        (now (out .entry)) r (now (out .exit)) ⌝ }
 {
     if !text::is_name_then_spaces(session) {
         return Written::Refused(refusal::FORM);
@@ -56,8 +56,8 @@ pub fn write_reject(reason: u8, out: &mut [u8]) -> Written
 
 // The blocks are lent as they are to stand; none, with the count 0, is a heartbeat.
 pub fn write_messages(first: Sequence, count: u16, blocks: &[u8], out: &mut [u8]) -> Written
-    ensures { λ r. ⌜ Settled (messagesReply (first .0) count (now (blocks .entry)) (length (now (out .entry)))) (now (out .entry)) r
-        (now (out .exit)) ⌝ }
+    ensures { λ r. ⌜ Settled (messagesReply (first .0) count (now (blocks .entry)) (length (now (out .entry))))
+        (now (out .entry)) r (now (out .exit)) ⌝ }
 {
     let size = 7 + blocks.len();
     if LIMIT < size {

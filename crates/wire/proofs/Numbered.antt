@@ -14,15 +14,15 @@ numbered [] = true
 numbered (c ∷ cs) = not (c .number is 0) && numbered cs
 
 -- a verdict whose refusal, if it is one, has a number
-abbrev pub Told : {A : Type 0} → Verdict A → Type 0
-Told (refused n) = (n is 0) ≡ false
-Told (taken a) = Unit
+abbrev pub HasNumber : {A : Type 0} → Verdict A → Type 0
+HasNumber (refused n) = (n is 0) ≡ false
+HasNumber (taken a) = Unit
 
-pub told : {A : Type 0} (cs : List Check) (v : Verdict A) → numbered cs ≡ true → Told v → Told (checked cs v)
-told [] v e t = t
-told (c ∷ cs) v e t =
+pub has-number : {A : Type 0} (cs : List Check) (v : Verdict A) → numbered cs ≡ true → HasNumber v → HasNumber (checked cs v)
+has-number [] v e t = t
+has-number (c ∷ cs) v e t =
     by-test (c .test)
-    (λ q. rw q (told cs v (and-right (not (c .number is 0)) (numbered cs) e) t))
+    (λ q. rw q (has-number cs v (and-right (not (c .number is 0)) (numbered cs) e) t))
     (λ q. rw q (not-true (c .number is 0) (and-left (not (c .number is 0)) (numbered cs) e)))
 
 module _ {A C : Type 0} where

@@ -35,7 +35,8 @@ pub record Check : Type 0 where
 abbrev pub _else_ : Bool → ℕ → Check
 t else n = record { test = t; number = n }
 
--- the first check that fails gives its number; if none does, the verdict is v
+-- the first check that fails gives its number; if none does, the verdict is v. `Checks`: what is taken passed every check (`all-passed`),
+-- and what passes every check is taken (`passed-all`)
 abbrev pub checked : {A : Type 0} → List Check → Verdict A → Verdict A
 checked [] v = v
 checked (c ∷ cs) v = if c .test then checked cs v else refused (c .number)
@@ -65,6 +66,6 @@ rising order from (c ∷ cs) =
 abbrev pub inOrder : List ℕ → List Check → Bool
 inOrder order cs = rising order 0 cs
 
--- the order in which readers check
+-- the order in which readers check; each reader's `Order` shows that what it checks stands in it
 abbrev pub ordered : List Check → Bool
 ordered cs = inOrder (1 ∷ 2 ∷ 3 ∷ 4 ∷ 8 ∷ 5 ∷ 6 ∷ 7 ∷ []) cs

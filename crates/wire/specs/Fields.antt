@@ -1,4 +1,5 @@
--- Unsigned numbers on the wire, the most significant byte first, at any width.
+-- Unsigned numbers on the wire, the most significant byte first, at any width. `Width`: reading undoes writing (`be-bytesOf`), and writing
+-- undoes reading (`bytesOf-be`).
 -- Assumes nothing.
 use Prim.Native.Nat.{ℕ, zero, suc, _+_, _*_, _/_, _%_, _^_, _<_}
 use mathlib.Core.List.{List, [], _∷_}

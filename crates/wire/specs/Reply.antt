@@ -22,7 +22,7 @@ abbrev pub leftOf : Reply → List ℕ → List ℕ
 leftOf (refused n) out = out
 leftOf (taken packet) out = packet ++ drop (length packet) out
 
--- the answer r and the bytes left are those of the reply
+-- the answer r and the bytes left are those of the reply; so any two outcomes are equal (`Outcomes.same-reply`)
 pub record Settled (reply : Reply) (out : List ℕ) (r : Written) (left : List ℕ) : Type 0 where
   pub answer : r ≡ answerOf reply
   pub bytes : left ≡ leftOf reply out

@@ -1,3 +1,5 @@
+-- `ask` meets its contract: the record's 10, then the clock's word; and what follows from that is what is wished.
+-- Assumes nothing.
 use mathlib.Core.Path.{_≡_, refl}
 use mathlib.Core.Bool.{Bool, true, false}
 use borrow.Author.Needs.{needs}

@@ -1,3 +1,5 @@
+-- `request` meets its contract: what is asked for is the first missing range, capped, and the record has asked.
+-- Assumes nothing.
 use Prim.Native.Nat.{ℕ, _+_, _-_, _≤_}
 use mathlib.Core.Path.{_≡_}
 use native.Mathlib.Nat.{min-eq-left, min-eq-right}
@@ -21,9 +23,10 @@ at-requires c κs = search needs
 
 sub-others : tie.Need-sub-others
 sub-others c =
-    let k = c .before .before .before .before .before .before .before .args .kept in
-    in-order (k .held) (k .next .0) (k .top .0) (c .before .before .before .before .at .result)
-    (c .before .before .before .before .at .ensures) (c .before .before .before .before .before .before .before .pre)
+    let found = c .before .before .before .before in
+    let start = found .before .before .before in
+    let k = start .args .kept in
+    in-order (k .held) (k .next .0) (k .top .0) (found .at .result) (found .at .ensures) (start .pre)
 
 cast-if1 : tie.Need-cast-if1
 cast-if1 c = search needs

@@ -1,8 +1,11 @@
+-- `count_upstream` meets its contract: at each turn the blocks counted, with those from the place on, are as many as from the start.
+-- Assumes nothing.
 use Prim.Native.Nat.{ℕ, _+_, _-_, _≤_}
 use mathlib.Core.Path.{_≡_, refl, sym, _∙_}
 use denote.Ref.{now}
 use native.Mathlib.Omega.{arith}
 use borrow.Author.Needs.{needs}
+use mathlib.Core.List.{List}
 use lib.ListN.{length}
 use Rattle.blocks.proofs.NextBlock.{Stands, found, missed, tally, upFrom, tally-step, tally-torn, tally-empty, tally-end, count-some}
 use Rattle.blocks.proofs.NextBlock.{count-none}
@@ -18,15 +21,16 @@ Inv-loop s at₀ count₀ at count = (at ≤ length s) × (count ≤ at) × (cou
 abbrev μ-loop : tie.MeasureT-loop
 μ-loop s at₀ count₀ at count = length s - at
 
--- the block that a turn found
-step : (c : tie.Else1 Inv-loop μ-loop) → let s = now (c .before .before .before .before .before .before .before .before .args .s) in
-    let p = c .before .before .before .before .before .before .loop .at in let g = c .before .before .length .given .0 in
-    Stands s p (g .1 .0) (g .1 .1 .0)
+-- the slice, the turn, and the block that it found
+abbrev slice : tie.Else1 Inv-loop μ-loop → List ℕ
+slice c = now (c .before .before .before .before .before .before .before .before .args .s)
+
+step : (c : tie.Else1 Inv-loop μ-loop) → let g = c .before .before .length .given .0 in
+    Stands (slice c) (c .before .before .before .before .before .before .loop .at) (g .1 .0) (g .1 .1 .0)
 step c =
+    let turn = c .before .before .before .before in
     let g = c .before .before .length .given in
-    found (now (c .before .before .before .before .before .before .before .before .args .s))
-    (c .before .before .before .before .before .before .loop .at) (g .0 .0) (g .0 .1 .0) (g .0 .1 .1 .0)
-    (sym (c .before .before .before .before .next .ensures) ∙ g .1)
+    found (slice c) (turn .before .before .loop .at) (g .0 .0) (g .0 .1 .0) (g .0 .1 .1 .0) (sym (turn .next .ensures) ∙ g .1)
 
 loop-holds : tie.Need-loop-holds Inv-loop μ-loop
 loop-holds c = (omega arith, omega arith, (λ _. refl), refl)
@@ -54,7 +58,7 @@ loop-less c = let f = step c in omega arith
 loop-again : tie.Need-loop-again Inv-loop μ-loop
 loop-again c =
     let l = c .before .before .before .before .before .before .loop in
-    let s = now (c .before .before .before .before .before .before .before .before .args .s) in
+    let s = slice c in
     let f = step c in
     let n = c .before .before .length .given .0 .1 .1 .0 in (
       omega arith,

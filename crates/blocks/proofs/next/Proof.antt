@@ -1,3 +1,5 @@
+-- `next` meets its contract: three tests, in the order in which nothing can wrap, say whether the block is all there.
+-- Assumes nothing.
 use denote.Ref.{now}
 use mathlib.Core.Path.{sym}
 use native.Mathlib.Omega.{arith}

@@ -1,3 +1,5 @@
+-- `skip` meets its contract: from place to place the blocks that are left lead where all of them led from the start.
+-- Assumes nothing.
 use Prim.Native.Nat.{ℕ, suc, _-_, _≤_, _<_}
 use mathlib.Core.Path.{_≡_, ap, _∙_, sym}
 use denote.Ref.{now}

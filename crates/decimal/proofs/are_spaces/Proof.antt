@@ -1,3 +1,5 @@
+-- `are_spaces` meets its contract: the stretches that are looked at, four or eight bytes each, may overlap and together are the whole.
+-- Assumes nothing.
 use Prim.Native.Nat.{_-_}
 use mathlib.Core.Path.{_≡_, refl, sym, _∙_}
 use mathlib.Core.Bool.{true}
@@ -29,12 +31,14 @@ returns-2 c =
     sym (short (a .s .now) 4 (a .n) (omega arith) (failed (c .before .four-spaces .ensures) (c .if2 .taken)))
 
 -- from here on the first four are spaces, and the next eight settle the first twelve
-four : (b : tie.Else2) → blank (take 4 (b .before .before .before .before .args .s .now)) ≡ true
+abbrev start : tie.Else2 → tie.Start
+start b = b .before .before .before .before
+
+four : (b : tie.Else2) → blank (take 4 (start b .args .s .now)) ≡ true
 four b = held (b .before .four-spaces .ensures) (b .if2 .left)
 
-twelve : (b : tie.Else2) → blank (take 12 (b .before .before .before .before .args .s .now)) ≡ blank
-    (take 8 (drop 4 (b .before .before .before .before .args .s .now)))
-twelve b = sym (overlap (b .before .before .before .before .args .s .now) 4 8 12 4 refl (omega arith) (four b))
+twelve : (b : tie.Else2) → let s = start b .args .s .now in blank (take 12 s) ≡ blank (take 8 (drop 4 s))
+twelve b = sym (overlap (start b .args .s .now) 4 8 12 4 refl (omega arith) (four b))
 
 four-spaces-requires-2 : tie.Need-four-spaces-requires-2
 four-spaces-requires-2 c κs = search needs
@@ -42,7 +46,7 @@ four-spaces-requires-2 c κs = search needs
 returns-3 : tie.Need-returns-3
 returns-3 c =
     let b = c .before .before in
-    let a = b .before .before .before .before .args in
+    let a = start b .args in
     c .four-spaces2 .ensures ∙ overlap (a .s .now) (a .n - 4) 4 (a .n) 4 (omega arith) (omega arith) (four b)
 
 eight-spaces-requires : tie.Need-eight-spaces-requires
@@ -51,7 +55,7 @@ eight-spaces-requires c κs = search needs
 returns-4 : tie.Need-returns-4
 returns-4 c =
     let b = c .before .before .before in
-    let a = b .before .before .before .before .args in
+    let a = start b .args in
     c .eight-spaces .ensures ∙ overlap (a .s .now) (a .n - 8) 8 (a .n) 4 (omega arith) (omega arith) (four b)
 
 eight-spaces-requires-2 : tie.Need-eight-spaces-requires-2
@@ -60,7 +64,7 @@ eight-spaces-requires-2 c κs = search needs
 returns-5 : tie.Need-returns-5
 returns-5 c =
     let b = c .before .before .before .before in
-    let a = b .before .before .before .before .args in
+    let a = start b .args in
     sym (short (a .s .now) 12 (a .n) (omega arith) (twelve b ∙ failed (c .before .eight-spaces2 .ensures) (c .if5 .taken)))
 
 eight-spaces-requires-3 : tie.Need-eight-spaces-requires-3
@@ -70,7 +74,7 @@ returns-6 : tie.Need-returns-6
 returns-6 c =
     let e = c .before in
     let b = e .before .before .before .before in
-    let a = b .before .before .before .before .args in
+    let a = start b .args in
     let all : blank (take 12 (a .s .now)) ≡ true = twelve b ∙ held (e .before .eight-spaces2 .ensures) (e .if5 .left) in
     c .eight-spaces3 .ensures ∙ overlap (a .s .now) (a .n - 8) 8 (a .n) 12 (omega arith) (omega arith) all
 

@@ -1,3 +1,5 @@
+-- `characters` meets its contract: from the last place on, the digits stored so far are those of the number, and spaces stand before them.
+-- Assumes nothing.
 use Prim.Native.Nat.{suc, _-_, _/_, _^_, _≤_}
 use mathlib.Core.Path.{_≡_, refl, _∙_}
 use mathlib.Core.List.{_++_}

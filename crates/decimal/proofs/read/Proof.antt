@@ -1,3 +1,4 @@
+-- `read` counts the digits that end the field; what stands before them decides, as `Ends` says. Assumes nothing.
 use mathlib.Core.Path.{_≡_, sym, ap, _∙_}
 use native.Mathlib.Nat.{pos-of-ne-zero}
 use borrow.Author.Needs.{needs}
@@ -55,17 +56,21 @@ returns-3 c =
     let stop = stops s _ (b .before .before .figure .result) (e .0) (e .3) (b .before .before .figure .ensures .0) (b .if2 .left) in
     sym (misshapen s _ (t .before .if1 .left) (e .0) (e .1) stop (failed (c .before .are-spaces .ensures) (c .if3 .taken)))
 
+-- where the digits that end the field were counted
+abbrev tail : tie.Else3 → tie.After-tail-of
+tail c = c .before .before .before .before .before .before .before
+
 returns-4 : tie.Need-returns-4
 returns-4 c =
     let b = c .before .before in
-    let t = b .before .before .before .before .before .before .before in
+    let t = tail b in
     let e = t .tail-of .ensures in
     sym (none _ _ (t .before .if1 .left) (e .0) (e .1) (held (b .before .are-spaces .ensures) (b .if3 .left)) (c .if4 .taken))
 
 returns-5 : tie.Need-returns-5
 returns-5 c =
     let b = c .before .before in
-    let t = b .before .before .before .before .before .before .before in
+    let t = tail b in
     let e = t .tail-of .ensures in
     ap Is (e .2) ∙ sym (number _ _ (t .before .if1 .left) (e .0) (e .1) (held (b .before .are-spaces .ensures) (b .if3 .left))
     (pos-of-ne-zero (c .if4 .left)))

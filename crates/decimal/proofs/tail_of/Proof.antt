@@ -1,3 +1,4 @@
+-- `tail_of` keeps, turn by turn: the last k characters are digits, and what they come to is counted. Assumes nothing.
 use Prim.Native.Nat.{_-_, _≤_}
 use mathlib.Core.Path.{_≡_, _∙_}
 use mathlib.Core.Bool.{true}
@@ -18,14 +19,15 @@ abbrev μ-loop : tie.MeasureT-loop
 μ-loop s powers value₀ k₀ value k = 19 - k
 
 -- a turn, with the power that the table has at the digit's place
-this-turn : (c : tie.Else1 Inv-loop μ-loop) → Turn (c .before .before .before .before .before .before .args .s .now)
-    (c .before .before .before .before .loop .k) (c .before .figure .result) (c .before .before .before .before .loop .value)
-    (getD (powers 20 0) (c .before .before .before .before .loop .k) 0)
+this-turn : (c : tie.Else1 Inv-loop μ-loop) → let top = c .before .before .before .before in
+    Turn (top .before .before .args .s .now) (top .loop .k) (c .before .figure .result) (top .loop .value)
+    (getD (powers 20 0) (top .loop .k) 0)
 this-turn c =
     let b = c .before .before .before in
-    let i = b .before .loop .inv in
+    let top = b .before in
+    let i = top .loop .inv in
     let f = c .before .figure .ensures in
-    turn _ _ _ _ _ (b .before .before .before .pre) (b .loop-test .taken) (i .1) (i .2) (f .0) (f .1) (c .if1 .left)
+    turn _ _ _ _ _ (top .before .before .pre) (b .loop-test .taken) (i .1) (i .2) (f .0) (f .1) (c .if1 .left)
     (power-at 20 _ (omega arith))
 
 loop-holds : tie.Need-loop-holds Inv-loop μ-loop

@@ -1,3 +1,5 @@
+-- `twenty` meets its contract: a first digit 0 adds nothing, 1 adds the last power if the bound is kept, and more is over it.
+-- Assumes nothing.
 use Prim.Native.Nat.{_+_, _-_, _*_, _^_, _≤_}
 use mathlib.Core.Path.{_≡_}
 use native.Mathlib.Nat.{zero-mul, one-mul, zero-add}

@@ -1,3 +1,5 @@
+-- `added` meets its contract: type by type, the message's writer answers behind what is there, or a body that doesn't belong is refused.
+-- Assumes nothing.
 use denote.Ref.{now}
 use borrow.Author.Tests.{ne-eqb}
 use Rattle.flat_compose.specs.Adding.{addFlat}
@@ -32,9 +34,9 @@ same-length c = search needs
 returns : tie.Need-returns
 unfolding addFlat
 returns c =
-    let a = c .before .before .before .before .before .before .before .before .args in
-    rw (c .before .before .before .before .before .match .keys1, ← c .before .before .before .before .login-of .ensures (now (a .body)))
-    (c .before .before .alone .ensures)
+    let l = c .before .before .before .before in
+    let a = l .before .before .before .before .args in
+    rw (l .before .match .keys1, ← l .login-of .ensures (now (a .body))) (c .before .before .alone .ensures)
 
 same-length-2 : tie.Need-same-length-2
 same-length-2 c = search needs
@@ -70,9 +72,9 @@ same-length-6 c = search needs
 returns-6 : tie.Need-returns-6
 unfolding addFlat
 returns-6 c =
-    let a = c .before .before .before .before .before .before .before .args in
-    let k = a .fields .kind in
-    let m = c .before .before .before .before .match .rest in
+    let b = c .before .before .before .before in
+    let k = b .before .before .before .args .fields .kind in
+    let m = b .match .rest in
     rw (ne-eqb k 76 (m .0 .0 .0 .0 .1), ne-eqb k 84 (m .0 .0 .0 .1), ne-eqb k 85 (m .0 .0 .1), ne-eqb k 82 (m .0 .1), ne-eqb k 79 (m .1))
     (c .before .before .unfit-behind .ensures)
 

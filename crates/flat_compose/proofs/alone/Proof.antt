@@ -1,3 +1,5 @@
+-- `alone` meets its contract: a message without fields is written, or refused with a body, behind what is there.
+-- Assumes nothing.
 use denote.Ref.{now}
 use borrow.Author.Tests.{eq-eqb, ne-eqb}
 use lib.ListN.{length}
@@ -13,8 +15,9 @@ same-length c = search needs
 
 returns : tie.Need-returns
 returns c =
-    let n = length (now (c .before .before .before .before .before .before .before .args .body)) in
-    rw (ne-eqb n 0 (c .before .before .before .before .if1 .taken)) (c .before .before .unfit-behind .ensures)
+    let i = c .before .before .before .before in
+    let n = length (now (i .before .before .before .args .body)) in
+    rw (ne-eqb n 0 (i .if1 .taken)) (c .before .before .unfit-behind .ensures)
 
 add-message-requires : tie.Need-add-message-requires
 add-message-requires c κs = search needs
@@ -24,8 +27,9 @@ same-length-2 c = search needs
 
 returns-2 : tie.Need-returns-2
 returns-2 c =
-    let n = length (now (c .before .before .before .before .before .before .before .args .body)) in
-    rw (eq-eqb n 0 (c .before .before .before .before .if1 .left)) (c .before .before .add-message .ensures)
+    let i = c .before .before .before .before in
+    let n = length (now (i .before .before .before .args .body)) in
+    rw (eq-eqb n 0 (i .if1 .left)) (c .before .before .add-message .ensures)
 
 pub alone-spec : {M : Type 1} → statement M
 alone-spec =

@@ -1,3 +1,5 @@
+-- `unfit_behind` meets its contract: 4 for the place, then what is there is read, then the size of the whole decides.
+-- Assumes nothing.
 use Prim.Native.Nat.{_+_}
 use mathlib.Core.Path.{sym, _∙_}
 use native.Mathlib.Omega.{arith}
@@ -42,20 +44,21 @@ same-length c = search needs
 
 returns-2 : tie.Need-returns-2
 returns-2 c =
-    let a = c .before .before .before .before .before .before .before .before .args in
+    let r = c .before .before .before in
+    let a = r .before .before .before .before .before .args in
     let g = c .before .n .given in
     as-so-far (now (a .out)) (a .used) _ _ (omega arith) (g .0 .0)
-    (was-refused (soFar (take (a .used) (now (a .out)))) (g .0 .0) (sym (c .before .before .before .read-so-far .ensures) ∙ g .1))
+    (was-refused (soFar (take (a .used) (now (a .out)))) (g .0 .0) (sym (r .read-so-far .ensures) ∙ g .1))
 
 same-length-2 : tie.Need-same-length-2
 same-length-2 c = search needs
 
 returns-3 : tie.Need-returns-3
 returns-3 c =
-    let a = c .before .before .before .before .before .before .before .before .args in
+    let r = c .before .before .before in
+    let a = r .before .before .before .before .before .args in
     let g = c .before .enum-told .given in
-    let so-far = was-taken (soFar (take (a .used) (now (a .out)))) (g .0 .0) (sym (c .before .before .before .read-so-far .ensures) ∙ g .1)
-    in
+    let so-far = was-taken (soFar (take (a .used) (now (a .out)))) (g .0 .0) (sym (r .read-so-far .ensures) ∙ g .1) in
     and-then-unfit (now (a .out)) (a .used) (a .size + length (now (a .body))) _ (omega arith) so-far _
     (rw (← add-assoc (a .used) (a .size) (length (now (a .body)))) (c .unfit .ensures))
 

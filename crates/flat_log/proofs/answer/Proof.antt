@@ -1,3 +1,5 @@
+-- `answer` meets its contract: a flag that is one, then what the room writes, and its answer laid flat.
+-- Assumes nothing.
 use borrow.Author.Needs.{needs}
 use mathlib.Core.Path.{refl}
 use Rattle.flat.proofs.Flattening.{flattens}
@@ -23,11 +25,9 @@ same-length : tie.Need-same-length
 same-length c = search needs
 
 returns : tie.Need-returns
-returns c = rw (
-  ← c .before .before .before .before .before .before .before .is-flag .ensures,
-  c .before .before .before .before .before .before .if1 .taken,
-  ← c .before .before .before .before .before .log-of .ensures,
-)
+returns c =
+    let given = c .before .before .before .before .before in
+    rw (← given .before .before .is-flag .ensures, given .before .if1 .taken, ← given .log-of .ensures)
     (flattens (c .before .before .before .answer .ensures) (c .wrote-of .ensures))
 
 returns-2 : tie.Need-returns-2

@@ -1,3 +1,5 @@
+-- `declare_end` meets its contract: a flag that is one, then the room's own answer, laid flat.
+-- Assumes nothing.
 use borrow.Author.Needs.{needs}
 use Rattle.flat_log.proofs.declare_end.Statement.{statement}
 use Rattle.flat_log.proofs.declare_end.Tie as tie
@@ -18,13 +20,15 @@ flat-logged-requires-2 : tie.Need-flat-logged-requires-2
 flat-logged-requires-2 c κs = search needs
 
 returns : tie.Need-returns
-returns c = rw (
-  ← c .before .before .before .before .is-flag .ensures,
-  c .before .before .before .if1 .taken,
-  c .flat-logged .ensures,
-  c .before .declare-end .ensures,
-  c .before .before .log-of .ensures,
-)
+returns c =
+    let given = c .before .before in
+    rw (
+      ← given .before .before .is-flag .ensures,
+      given .before .if1 .taken,
+      c .flat-logged .ensures,
+      c .before .declare-end .ensures,
+      given .log-of .ensures,
+    )
 
 returns-2 : tie.Need-returns-2
 returns-2 c = rw (← c .before .before .is-flag .ensures, c .before .if1 .left, c .flat-logged2 .ensures)

@@ -13,6 +13,13 @@ use borrow.Author.Needs.{needs}
 use Rattle.flat_memx.proofs.written.Statement.{statement}
 use Rattle.flat_memx.proofs.written.Tie as tie
 
+-- Messages go to their writer; a type that is none, and a body behind a header alone, are refused as `Refusing` says of the definition;
+-- what is left is a header alone, whose body is empty.
+
+-- the start, from where the type is not that of messages
+abbrev start : tie.Else1 → tie.Start
+start c = c .before .before .before .before
+
 add-header : tie.Need-add-header
 add-header c = search needs
 
@@ -31,7 +38,7 @@ unfit-requires c κs = search needs
 
 returns-2 : tie.Need-returns-2
 returns-2 c =
-    let a = c .before .before .before .before .before .before .args in
+    let a = start (c .before .before) .args in
     let extra = now (a .extra) in
     let body = now (a .body) in
     unfits _ _ limit (18 + length extra + length body) 3 _ (unknown-type (a .fields) extra body _ (c .before .if2 .taken))
@@ -45,7 +52,7 @@ unfit-requires-2 c κs = search needs
 
 returns-3 : tie.Need-returns-3
 returns-3 c =
-    let a = c .before .before .before .before .before .before .before .before .args in
+    let a = start (c .before .before .before .before) .args in
     let extra = now (a .extra) in
     let body = now (a .body) in
     let kind : a .fields .kind ≤ 1 = omega arith in
@@ -65,9 +72,10 @@ same-length-2 c = search needs
 returns-4 : tie.Need-returns-4
 unfolding memxReply write
 returns-4 c =
-    let a = c .before .before .before .before .before .before .before .before .before .before .before .args in
+    let chosen = c .before .before .before .before in
+    let a = start (chosen .before .before .before) .args in
     let none : now (a .body) ≡ [] = drop-of-length-le (now (a .body)) {i = 0} (omega arith) in
-    rw (none, c .before .before .before .before .if4 .taken) (c .before .before .write-heartbeat .ensures)
+    rw (none, chosen .if4 .taken) (c .before .before .write-heartbeat .ensures)
 
 same-length-3 : tie.Need-same-length-3
 same-length-3 c = search needs
@@ -75,7 +83,8 @@ same-length-3 c = search needs
 returns-5 : tie.Need-returns-5
 unfolding memxReply write
 returns-5 c =
-    let a = c .before .before .before .before .before .before .before .before .before .before .before .args in
+    let chosen = c .before .before .before .before in
+    let a = start (chosen .before .before .before) .args in
     let none : now (a .body) ≡ [] = drop-of-length-le (now (a .body)) {i = 0} (omega arith) in
     let shutdown : a .fields .kind ≡ 1 = omega arith in
     rw (none, shutdown) (c .before .before .write-shutdown .ensures)

@@ -1,8 +1,10 @@
+-- Each return lays the room's answer flat (`Flattening`). Of a packet its fields are asked for besides, and they are those of the bytes at
+-- the buffer's start (`Handing`).
 use mathlib.Core.Path.{sym}
 use lib.Seq.{length-take-le}
 use borrow.Author.Needs.{needs}
 use Rattle.flat_pieces.proofs.Flattening.{flattens}
-use Rattle.flat_pieces.proofs.Handing.{Handed, handed}
+use Rattle.flat_pieces.proofs.Handing.{AsRead, as-read}
 use Rattle.flat_pieces.proofs.take.Statement.{statement}
 use Rattle.flat_pieces.proofs.take.Tie as tie
 
@@ -30,27 +32,26 @@ enum-known-packet c = search needs
 up-to-requires-2 : tie.Need-up-to-requires-2
 up-to-requires-2 c κs = search needs
 
--- of the packet that is handed out
-is-handed : (c : tie.After-known-told3) → Handed (c .before .packet .given .0 .0) (c .before .packet .given .0 .1 .1 .0)
-    (c .before .before .before .before .before .verdict .last .1 .0)
-is-handed c =
-    let a = c .before .before .before .before .before .before .before .before .before .before .args in
-    handed (a .given) (a .place) (c .before .before .before .before .before .verdict .ensures) (c .before .packet .given .1)
+-- where the room's answer came, and the packet that it hands out
+abbrev answered : tie.After-known-told3 → tie.After-verdict
+answered c = c .before .before .before .before .before
+
+is-read : (c : tie.After-known-told3)
+    → AsRead (c .before .packet .given .0 .0) (c .before .packet .given .0 .1 .1 .0) (answered c .verdict .last .1 .0)
+is-read c =
+    let a = answered c .before .before .before .before .before .args in
+    as-read (a .given) (a .place) (answered c .verdict .ensures) (c .before .packet .given .1)
 
 slice-reshare-prefix-with-fields : tie.Need-slice-reshare-prefix-with-fields
-slice-reshare-prefix-with-fields c = is-handed (c .before) .fits
+slice-reshare-prefix-with-fields c = is-read (c .before) .fits
 
 slice-aggregate-with-fields : tie.Need-slice-aggregate-with-fields
-slice-aggregate-with-fields c = sym (length-take-le _ _ (is-handed (c .before .before) .fits))
+slice-aggregate-with-fields c = sym (length-take-le _ _ (is-read (c .before .before) .fits))
 
 with-fields-requires : tie.Need-with-fields-requires
-with-fields-requires c κs = (
-  rw (
-    c .before .up-to2 .ensures,
-    c .before .before .before .before .before .before .before .before .before .none-ended .ensures,
-  ),
-  is-handed (c .before .before) .says,
-)
+with-fields-requires c κs =
+    let at = c .before .before in
+    (rw (c .before .up-to2 .ensures, answered at .before .before .none-ended .ensures), is-read at .says)
 
 enum-known-why : tie.Need-enum-known-why
 enum-known-why c = search needs
@@ -65,42 +66,38 @@ same-length : tie.Need-same-length
 same-length c = search needs
 
 returns : tie.Need-returns
-returns c = flattens (c .before .before .before .before .before .verdict .ensures)
-    (rw (c .before .number .given .1, c .before .before .before .before .before .before .before .none-ended .ensures))
+returns c =
+    let at = c .before .before .before .before .before in
+    flattens (at .verdict .ensures) (rw (c .before .number .given .1, at .before .before .none-ended .ensures))
 
 same-length-2 : tie.Need-same-length-2
 same-length-2 c = search needs
 
 returns-2 : tie.Need-returns-2
-returns-2 c = flattens (c .before .before .before .before .before .before .verdict .ensures)
-    (rw (
-      c .before .before .after .given .1,
-      c .up-to .ensures,
-      c .before .before .before .before .before .before .before .before .none-ended .ensures,
-    ))
+returns-2 c =
+    let known = c .before .before in
+    let at = known .before .before .before .before in
+    flattens (at .verdict .ensures) (rw (known .after .given .1, c .up-to .ensures, at .before .before .none-ended .ensures))
 
 same-length-3 : tie.Need-same-length-3
 same-length-3 c = search needs
 
 returns-3 : tie.Need-returns-3
-returns-3 c = flattens (c .before .before .before .before .before .before .before .before .verdict .ensures)
-    (rw (
-      c .before .before .before .before .packet .given .1,
-      c .with-fields .ensures,
-      c .before .before .up-to2 .ensures,
-      c .before .before .before .before .before .before .before .before .before .before .none-ended .ensures,
-    ))
+returns-3 c =
+    let known = c .before .before .before .before in
+    let at = known .before .before .before .before in
+    let laid = c .before .before .up-to2 .ensures in
+    flattens (at .verdict .ensures)
+    (rw (known .packet .given .1, c .with-fields .ensures, laid, at .before .before .none-ended .ensures))
 
 same-length-4 : tie.Need-same-length-4
 same-length-4 c = search needs
 
 returns-4 : tie.Need-returns-4
-returns-4 c = flattens (c .before .before .before .before .before .before .verdict .ensures)
-    (rw (
-      c .before .before .why .given .1,
-      c .up-to3 .ensures,
-      c .before .before .before .before .before .before .before .before .none-ended .ensures,
-    ))
+returns-4 c =
+    let known = c .before .before in
+    let at = known .before .before .before .before in
+    flattens (at .verdict .ensures) (rw (known .why .given .1, c .up-to3 .ensures, at .before .before .none-ended .ensures))
 
 pub take-spec : {M : Type 1} → statement M
 take-spec =

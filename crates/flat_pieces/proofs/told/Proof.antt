@@ -1,9 +1,19 @@
-use mathlib.Core.Path.{refl}
+-- Once the bytes are known to be bytes, each case of the reader's answer is laid flat by the law of its kind: of any case (with the texts
+-- where they stand), of a payload, or of a type alone.
+use Prim.Native.Nat.{ℕ}
+use mathlib.Core.Path.{_≡_, refl}
+use mathlib.Core.List.{List}
 use native.Mathlib.Omega.{arith}
 use denote.Ref.{now}
+use lib.ListN.{getD}
+use Rattle.wire.specs.Fields.{Bytes}
+use Rattle.soup.specs.declared.reading.Reading.{Reading}
 use Rattle.soup.proofs.Sorting.{empty}
+use Rattle.flat_packet.specs.Packets.{payload}
+use Rattle.flat_packet.specs.declared.Read.{Read}
+use Rattle.flat_soup.specs.Reading.{flatSoup, soupRead}
 use Rattle.flat_pieces.proofs.Fields.{by-case, by-type, by-type-alone}
-use Rattle.flat_pieces.proofs.Texts.{texts}
+use Rattle.flat_pieces.proofs.Texts.{Stand, texts}
 use borrow.Author.Needs.{needs}
 use Rattle.flat_pieces.proofs.told.Statement.{statement}
 use Rattle.flat_pieces.proofs.told.Tie as tie
@@ -18,6 +28,28 @@ returns c =
 shared-slice-read-kind : tie.Need-shared-slice-read-kind
 shared-slice-read-kind c = search needs
 
+-- from where the bytes are known, before the match
+module _ (c : tie.After-shared-slice-known2) where
+  abbrev start : tie.Start
+  start = c .before .before .before
+
+  abbrev d : List ℕ
+  d = now (start .args .bytes)
+
+  are-bytes : Bytes d
+  are-bytes i = c .shared-slice-known2 .given i .fits
+
+  module _ (x : Reading) (e : start .args .said ≡ x) where
+    stand : Stand d x
+    stand = texts d (start .args .said) x (start .pre) are-bytes e
+
+    case : (r : Read) → r ≡ flatSoup x → r ≡ soupRead d
+    case r = by-case d (start .args .said) (start .pre) x r e
+
+    carries : (kind place size : ℕ) (r : Read) → flatSoup x ≡ payload kind place size 0 → r ≡ payload (getD d 0 0) place size 0
+        → r ≡ soupRead d
+    carries kind place size r = by-type d (start .args .said) (start .pre) are-bytes x kind place size r e
+
 enum-known-said : tie.Need-enum-known-said
 enum-known-said c = search needs
 
@@ -28,13 +60,7 @@ enum-known-said-2 : tie.Need-enum-known-said-2
 enum-known-said-2 c = search needs
 
 ten-requires : tie.Need-ten-requires
-ten-requires c κs =
-    let a = c .before .before .before .before .before .before in
-    omega (
-      arith,
-      (texts (now (a .args .bytes)) (a .args .said) _ (a .pre)
-          (λ i. c .before .before .before .shared-slice-known2 .given i .fits) (c .before .said2 .given .1)) .0,
-    )
+ten-requires c κs = omega (arith, (stand (c .before .before .before) _ (c .before .said2 .given .1)) .0)
 
 named-requires : tie.Need-named-requires
 named-requires c κs = search needs
@@ -49,32 +75,17 @@ enum-known-said-4 : tie.Need-enum-known-said-4
 enum-known-said-4 c = search needs
 
 six-requires : tie.Need-six-requires
-six-requires c κs =
-    let a = c .before .before .before .before .before .before in
-    omega (
-      arith,
-      (texts (now (a .args .bytes)) (a .args .said) _ (a .pre)
-          (λ i. c .before .before .before .shared-slice-known2 .given i .fits) (c .before .said4 .given .1)) .0,
-    )
+six-requires c κs = omega (arith, (stand (c .before .before .before) _ (c .before .said4 .given .1)) .0)
 
 ten-requires-2 : tie.Need-ten-requires-2
 ten-requires-2 c κs =
-    let a = c .before .before .before .before .before .before .before in
-    omega (
-      arith,
-      (texts (now (a .args .bytes)) (a .args .said) _ (a .pre)
-          (λ i. c .before .before .before .before .shared-slice-known2 .given i .fits) (c .before .before .said4 .given .1)) .0,
-    )
+    let said = c .before .before in
+    omega (arith, (stand (said .before .before) _ (said .said4 .given .1)) .0)
 
 ten-requires-3 : tie.Need-ten-requires-3
 ten-requires-3 c κs =
-    let a = c .before .before .before .before .before .before .before .before in
-    omega (
-      arith,
-      (texts (now (a .args .bytes)) (a .args .said) _ (a .pre)
-          (λ i. c .before .before .before .before .before .shared-slice-known2 .given i .fits)
-          (c .before .before .before .said4 .given .1)) .0,
-    )
+    let said = c .before .before .before in
+    omega (arith, (stand (said .before .before) _ (said .said4 .given .1)) .0)
 
 logged-in-requires : tie.Need-logged-in-requires
 logged-in-requires c κs = search needs
@@ -102,61 +113,47 @@ bare-requires c κs = search needs
 
 returns-2 : tie.Need-returns-2
 returns-2 c =
-    let a = c .before .before .before .before .before .before .before in
-    by-case (now (a .args .bytes)) (a .args .said) (a .pre) _ _ (c .before .before .said .given .1) (c .no-packet2 .ensures)
+    let said = c .before .before in
+    case (said .before .before) _ (said .said .given .1) _ (c .no-packet2 .ensures)
 
 returns-3 : tie.Need-returns-3
 returns-3 c =
-    let a = c .before .before .before .before .before .before .before .before in
-    let t = texts (now (a .args .bytes)) (a .args .said) _ (a .pre)
-    (λ i. c .before .before .before .before .before .shared-slice-known2 .given i .fits) (c .before .before .before .said2 .given .1) in
-    by-case (now (a .args .bytes)) (a .args .said) (a .pre) _ _ (c .before .before .before .said2 .given .1)
-    (rw (c .before .ten .ensures, ← t .1) at (c .named .ensures))
+    let said = c .before .before .before in
+    let t = stand (said .before .before) _ (said .said2 .given .1) in
+    case (said .before .before) _ (said .said2 .given .1) _ (rw (c .before .ten .ensures, ← t .1) at (c .named .ensures))
 
 returns-4 : tie.Need-returns-4
 returns-4 c =
-    let a = c .before .before .before .before .before .before .before in
-    by-case (now (a .args .bytes)) (a .args .said) (a .pre) _ _ (c .before .before .said3 .given .1) (c .rejected .ensures)
+    let said = c .before .before in
+    case (said .before .before) _ (said .said3 .given .1) _ (c .rejected .ensures)
 
 returns-5 : tie.Need-returns-5
 returns-5 c =
-    let a = c .before .before .before .before .before .before .before .before .before .before in
-    let t = texts (now (a .args .bytes)) (a .args .said) _ (a .pre)
-    (λ i. c .before .before .before .before .before .before .before .shared-slice-known2 .given i .fits)
-    (c .before .before .before .before .before .said4 .given .1) in
-    by-case (now (a .args .bytes)) (a .args .said) (a .pre) _ _ (c .before .before .before .before .before .said4 .given .1)
-    (rw (
-      c .before .before .before .six .ensures,
-      c .before .before .ten2 .ensures,
-      c .before .ten3 .ensures,
-      ← t .1,
-      ← t .2,
-      ← t .3,
-    ) at (c .logged-in .ensures))
+    let said = c .before .before .before .before .before in
+    let t = stand (said .before .before) _ (said .said4 .given .1) in
+    let named = c .before .before .before .six .ensures in
+    case (said .before .before) _ (said .said4 .given .1) _
+    (rw (named, c .before .before .ten2 .ensures, c .before .ten3 .ensures, ← t .1, ← t .2, ← t .3) at (c .logged-in .ensures))
 
 returns-6 : tie.Need-returns-6
 returns-6 c =
-    let a = c .before .before .before .before .before .before .before in
-    by-type (now (a .args .bytes)) (a .args .said) (a .pre) (λ i. c .before .before .before .before .shared-slice-known2 .given i .fits) _
-    43 _ _ _ (c .before .before .said5 .given .1) refl (c .payload .ensures)
+    let said = c .before .before in
+    carries (said .before .before) _ (said .said5 .given .1) 43 _ _ _ refl (c .payload .ensures)
 
 returns-7 : tie.Need-returns-7
 returns-7 c =
-    let a = c .before .before .before .before .before .before .before in
-    by-type (now (a .args .bytes)) (a .args .said) (a .pre) (λ i. c .before .before .before .before .shared-slice-known2 .given i .fits) _
-    83 _ _ _ (c .before .before .said6 .given .1) refl (c .payload2 .ensures)
+    let said = c .before .before in
+    carries (said .before .before) _ (said .said6 .given .1) 83 _ _ _ refl (c .payload2 .ensures)
 
 returns-8 : tie.Need-returns-8
 returns-8 c =
-    let a = c .before .before .before .before .before .before .before in
-    by-type (now (a .args .bytes)) (a .args .said) (a .pre) (λ i. c .before .before .before .before .shared-slice-known2 .given i .fits) _
-    85 _ _ _ (c .before .before .said7 .given .1) refl (c .payload3 .ensures)
+    let said = c .before .before in
+    carries (said .before .before) _ (said .said7 .given .1) 85 _ _ _ refl (c .payload3 .ensures)
 
 returns-9 : tie.Need-returns-9
 returns-9 c =
-    let a = c .before .before .before .before .before in
-    by-type-alone (now (a .args .bytes)) (a .args .said) (a .pre) (λ i. c .before .before .shared-slice-known2 .given i .fits) _
-    (c .before .match .keys8) (c .bare .ensures)
+    let k = c .before .before in
+    by-type-alone (d k) (start k .args .said) (start k .pre) (are-bytes k) _ (c .before .match .keys8) (c .bare .ensures)
 
 pub told-spec : {M : Type 1} → statement M
 told-spec =

@@ -16,12 +16,9 @@ same-length : tie.Need-same-length
 same-length c = search needs
 
 returns : tie.Need-returns
-returns c = rw (
-  ← c .before .before .before .before .before .before .is-flag .ensures,
-  c .before .before .before .before .before .if1 .taken,
-  ← c .before .before .before .before .pieces-of .ensures,
-)
-    (c .before .before .take .ensures)
+returns c =
+    let at = c .before .before .before .before in
+    rw (← at .before .before .is-flag .ensures, at .before .if1 .taken, ← at .pieces-of .ensures) (c .before .before .take .ensures)
 
 returns-2 : tie.Need-returns-2
 returns-2 c = rw (← c .before .is-flag .ensures, c .if1 .left) (record { answer = refl; bytes = refl })

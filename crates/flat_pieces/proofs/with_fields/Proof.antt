@@ -9,11 +9,10 @@ told-requires : tie.Need-told-requires
 told-requires c κs = c .before .before .pre .1
 
 returns : tie.Need-returns
-returns c = rw (
-  c .before .before .before .before .before .before .before .pre .0,
-  ← c .before .before .before .before .before .before .before .pre .1,
-  c .before .before .before .before .said .given .1,
-)
+returns c =
+    let at = c .before .before .before .before in
+    let start = at .before .before .before in
+    rw (start .pre .0, ← start .pre .1, at .said .given .1)
 
 returns-2 : tie.Need-returns-2
 returns-2 c = rw (c .before .told .ensures)

@@ -1,7 +1,9 @@
+-- `bare_written` hands each type to its writer; with a body it is too long, and any other type is unknown. Assumes nothing.
 use Prim.Native.Nat.{_+_}
 use denote.Ref.{now}
 use borrow.Author.Tests.{eq-eqb, ne-eqb}
 use lib.ListN.{length}
+use Rattle.soup.specs.Packet.{lineLimit}
 use Rattle.flat_soup.specs.Writing.{soupBare}
 use Rattle.flat_packet.proofs.Unfitting.{unfits}
 use borrow.Author.Needs.{needs}
@@ -14,8 +16,10 @@ unfit-requires c κs = search needs
 returns : tie.Need-returns
 unfolding soupBare
 returns c =
-    let n = length (now (c .before .before .before .before .before .args .body)) in
-    unfits _ _ 4098 (2 + n) 4 _ (rw (c .before .before .match .keys1, ne-eqb n 0 (c .before .if1 .taken))) (c .unfit .ensures)
+    let i = c .before in
+    let m = i .before in
+    let n = length (now (m .before .before .before .args .body)) in
+    unfits _ _ lineLimit (2 + n) 4 _ (rw (m .match .keys1, ne-eqb n 0 (i .if1 .taken))) (c .unfit .ensures)
 
 write-server-heartbeat-requires : tie.Need-write-server-heartbeat-requires
 write-server-heartbeat-requires c κs = search needs
@@ -26,8 +30,10 @@ unfit-requires-2 c κs = search needs
 returns-2 : tie.Need-returns-2
 unfolding soupBare
 returns-2 c =
-    let n = length (now (c .before .before .before .before .before .args .body)) in
-    unfits _ _ 4098 (2 + n) 4 _ (rw (c .before .before .match .keys2, ne-eqb n 0 (c .before .if2 .taken))) (c .unfit2 .ensures)
+    let i = c .before in
+    let m = i .before in
+    let n = length (now (m .before .before .before .args .body)) in
+    unfits _ _ lineLimit (2 + n) 4 _ (rw (m .match .keys2, ne-eqb n 0 (i .if2 .taken))) (c .unfit2 .ensures)
 
 write-end-of-session-requires : tie.Need-write-end-of-session-requires
 write-end-of-session-requires c κs = search needs
@@ -38,8 +44,10 @@ unfit-requires-3 c κs = search needs
 returns-3 : tie.Need-returns-3
 unfolding soupBare
 returns-3 c =
-    let n = length (now (c .before .before .before .before .before .args .body)) in
-    unfits _ _ 4098 (2 + n) 4 _ (rw (c .before .before .match .keys3, ne-eqb n 0 (c .before .if3 .taken))) (c .unfit3 .ensures)
+    let i = c .before in
+    let m = i .before in
+    let n = length (now (m .before .before .before .args .body)) in
+    unfits _ _ lineLimit (2 + n) 4 _ (rw (m .match .keys3, ne-eqb n 0 (i .if3 .taken))) (c .unfit3 .ensures)
 
 write-client-heartbeat-requires : tie.Need-write-client-heartbeat-requires
 write-client-heartbeat-requires c κs = search needs
@@ -50,8 +58,10 @@ unfit-requires-4 c κs = search needs
 returns-4 : tie.Need-returns-4
 unfolding soupBare
 returns-4 c =
-    let n = length (now (c .before .before .before .before .before .args .body)) in
-    unfits _ _ 4098 (2 + n) 4 _ (rw (c .before .before .match .keys4, ne-eqb n 0 (c .before .if4 .taken))) (c .unfit4 .ensures)
+    let i = c .before in
+    let m = i .before in
+    let n = length (now (m .before .before .before .args .body)) in
+    unfits _ _ lineLimit (2 + n) 4 _ (rw (m .match .keys4, ne-eqb n 0 (i .if4 .taken))) (c .unfit4 .ensures)
 
 write-logout-requires : tie.Need-write-logout-requires
 write-logout-requires c κs = search needs
@@ -65,9 +75,11 @@ same-length c = search needs
 returns-5 : tie.Need-returns-5
 unfolding soupBare
 returns-5 c =
-    let n = length (now (c .before .before .before .before .before .before .before .before .args .body)) in
-    rw (c .before .before .before .before .before .match .keys1, eq-eqb n 0 (c .before .before .before .before .if1 .left))
-    (c .before .before .write-server-heartbeat .ensures)
+    let w = c .before .before in
+    let i = w .before .before in
+    let m = i .before in
+    let n = length (now (m .before .before .before .args .body)) in
+    rw (m .match .keys1, eq-eqb n 0 (i .if1 .left)) (w .write-server-heartbeat .ensures)
 
 same-length-2 : tie.Need-same-length-2
 same-length-2 c = search needs
@@ -75,9 +87,11 @@ same-length-2 c = search needs
 returns-6 : tie.Need-returns-6
 unfolding soupBare
 returns-6 c =
-    let n = length (now (c .before .before .before .before .before .before .before .before .args .body)) in
-    rw (c .before .before .before .before .before .match .keys2, eq-eqb n 0 (c .before .before .before .before .if2 .left))
-    (c .before .before .write-end-of-session .ensures)
+    let w = c .before .before in
+    let i = w .before .before in
+    let m = i .before in
+    let n = length (now (m .before .before .before .args .body)) in
+    rw (m .match .keys2, eq-eqb n 0 (i .if2 .left)) (w .write-end-of-session .ensures)
 
 same-length-3 : tie.Need-same-length-3
 same-length-3 c = search needs
@@ -85,9 +99,11 @@ same-length-3 c = search needs
 returns-7 : tie.Need-returns-7
 unfolding soupBare
 returns-7 c =
-    let n = length (now (c .before .before .before .before .before .before .before .before .args .body)) in
-    rw (c .before .before .before .before .before .match .keys3, eq-eqb n 0 (c .before .before .before .before .if3 .left))
-    (c .before .before .write-client-heartbeat .ensures)
+    let w = c .before .before in
+    let i = w .before .before in
+    let m = i .before in
+    let n = length (now (m .before .before .before .args .body)) in
+    rw (m .match .keys3, eq-eqb n 0 (i .if3 .left)) (w .write-client-heartbeat .ensures)
 
 same-length-4 : tie.Need-same-length-4
 same-length-4 c = search needs
@@ -95,9 +111,11 @@ same-length-4 c = search needs
 returns-8 : tie.Need-returns-8
 unfolding soupBare
 returns-8 c =
-    let n = length (now (c .before .before .before .before .before .before .before .before .args .body)) in
-    rw (c .before .before .before .before .before .match .keys4, eq-eqb n 0 (c .before .before .before .before .if4 .left))
-    (c .before .before .write-logout .ensures)
+    let w = c .before .before in
+    let i = w .before .before in
+    let m = i .before in
+    let n = length (now (m .before .before .before .args .body)) in
+    rw (m .match .keys4, eq-eqb n 0 (i .if4 .left)) (w .write-logout .ensures)
 
 returns-9 : tie.Need-returns-9
 unfolding soupBare
@@ -106,7 +124,7 @@ returns-9 c =
     let k = a .kind in
     let n = length (now (a .body)) in
     let m = c .before .match .rest in
-    unfits _ _ 4098 (2 + n) 3 _ (rw (ne-eqb k 72 (m .0 .0 .0 .1), ne-eqb k 90 (m .0 .0 .1), ne-eqb k 82 (m .0 .1), ne-eqb k 79 (m .1)))
+    unfits _ _ lineLimit (2 + n) 3 _ (rw (ne-eqb k 72 (m .0 .0 .0 .1), ne-eqb k 90 (m .0 .0 .1), ne-eqb k 82 (m .0 .1), ne-eqb k 79 (m .1)))
     (c .unfit5 .ensures)
 
 pub bare-written-spec : {M : Type 1} → statement M

@@ -1,3 +1,5 @@
+-- `flat_of` meets its contract: each answer of the reader is laid flat as the definition has it.
+-- Assumes nothing.
 use borrow.Author.Needs.{needs}
 use Rattle.flat_soup.proofs.flat_of.Statement.{statement}
 use Rattle.flat_soup.proofs.flat_of.Tie as tie
@@ -102,13 +104,17 @@ returns-7 : tie.Need-returns-7
 returns-7 c = rw (c .bare2 .ensures, c .before .enum-told2 .given .1)
 
 returns-8 : tie.Need-returns-8
-returns-8 c = rw (
-  c .logged-in .ensures,
-  c .before .name-bytes3 .ensures,
-  c .before .before .name-bytes2 .ensures,
-  c .before .before .before .user-bytes .ensures,
-  c .before .before .before .before .before .said6 .given .1,
-)
+returns-8 c =
+    let session = c .before in
+    let password = session .before in
+    let user = password .before in
+    rw (
+      c .logged-in .ensures,
+      session .name-bytes3 .ensures,
+      password .name-bytes2 .ensures,
+      user .user-bytes .ensures,
+      user .before .before .said6 .given .1,
+    )
 
 returns-9 : tie.Need-returns-9
 returns-9 c = rw (c .payload3 .ensures, c .before .before .said7 .given .1)

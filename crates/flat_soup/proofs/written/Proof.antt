@@ -1,7 +1,9 @@
+-- `written` hands each type to its writer, by the fields that it has; with a body where none belongs it is too long. Assumes nothing.
 use Prim.Native.Nat.{_+_}
 use denote.Ref.{now}
 use borrow.Author.Tests.{eq-eqb, ne-eqb}
 use lib.ListN.{length}
+use Rattle.soup.specs.Packet.{lineLimit}
 use Rattle.flat_soup.specs.Writing.{soupReply}
 use Rattle.flat_packet.proofs.Unfitting.{unfits}
 use borrow.Author.Needs.{needs}
@@ -23,8 +25,10 @@ unfit-requires c κs = search needs
 returns : tie.Need-returns
 unfolding soupReply
 returns c =
-    let n = length (now (c .before .before .before .before .before .args .body)) in
-    unfits _ _ 4098 (32 + n) 4 _ (rw (c .before .before .match .keys4, ne-eqb n 0 (c .before .if1 .taken))) (c .unfit .ensures)
+    let i = c .before in
+    let m = i .before in
+    let n = length (now (m .before .before .before .args .body)) in
+    unfits _ _ lineLimit (32 + n) 4 _ (rw (m .match .keys4, ne-eqb n 0 (i .if1 .taken))) (c .unfit .ensures)
 
 name-of-requires : tie.Need-name-of-requires
 name-of-requires c κs = search needs
@@ -38,8 +42,10 @@ unfit-requires-2 c κs = search needs
 returns-2 : tie.Need-returns-2
 unfolding soupReply
 returns-2 c =
-    let n = length (now (c .before .before .before .before .before .args .body)) in
-    unfits _ _ 4098 (3 + n) 4 _ (rw (c .before .before .match .keys5, ne-eqb n 0 (c .before .if2 .taken))) (c .unfit2 .ensures)
+    let i = c .before in
+    let m = i .before in
+    let n = length (now (m .before .before .before .args .body)) in
+    unfits _ _ lineLimit (3 + n) 4 _ (rw (m .match .keys5, ne-eqb n 0 (i .if2 .taken))) (c .unfit2 .ensures)
 
 write-reject-requires : tie.Need-write-reject-requires
 write-reject-requires c κs = search needs
@@ -50,8 +56,10 @@ unfit-requires-3 c κs = search needs
 returns-3 : tie.Need-returns-3
 unfolding soupReply
 returns-3 c =
-    let n = length (now (c .before .before .before .before .before .args .body)) in
-    unfits _ _ 4098 (48 + n) 4 _ (rw (c .before .before .match .keys6, ne-eqb n 0 (c .before .if3 .taken))) (c .unfit3 .ensures)
+    let i = c .before in
+    let m = i .before in
+    let n = length (now (m .before .before .before .args .body)) in
+    unfits _ _ lineLimit (48 + n) 4 _ (rw (m .match .keys6, ne-eqb n 0 (i .if3 .taken))) (c .unfit3 .ensures)
 
 login-written-requires : tie.Need-login-written-requires
 login-written-requires c κs = search needs
@@ -86,14 +94,12 @@ same-length-4 c = search needs
 returns-7 : tie.Need-returns-7
 unfolding soupReply
 returns-7 c =
-    let n = length (now (c .before .before .before .before .before .before .before .before .before .before .before .args .body)) in
-    rw (
-      c .before .before .before .before .before .before .before .before .match .keys4,
-      eq-eqb n 0
-          (c .before .before .before .before .before .before .before .if1 .left),
-      ← c .before .before .before .before .name-of .ensures .1,
-    )
-    (c .before .before .write-accept .ensures)
+    let w = c .before .before in
+    let a = w .before .before in
+    let i = a .before .before .before in
+    let m = i .before in
+    let n = length (now (m .before .before .before .args .body)) in
+    rw (m .match .keys4, eq-eqb n 0 (i .if1 .left), ← a .name-of .ensures .1) (w .write-accept .ensures)
 
 same-length-5 : tie.Need-same-length-5
 same-length-5 c = search needs
@@ -101,9 +107,11 @@ same-length-5 c = search needs
 returns-8 : tie.Need-returns-8
 unfolding soupReply
 returns-8 c =
-    let n = length (now (c .before .before .before .before .before .before .before .before .args .body)) in
-    rw (c .before .before .before .before .before .match .keys5, eq-eqb n 0 (c .before .before .before .before .if2 .left))
-    (c .before .before .write-reject .ensures)
+    let w = c .before .before in
+    let i = w .before .before in
+    let m = i .before in
+    let n = length (now (m .before .before .before .args .body)) in
+    rw (m .match .keys5, eq-eqb n 0 (i .if2 .left)) (w .write-reject .ensures)
 
 same-length-6 : tie.Need-same-length-6
 same-length-6 c = search needs
@@ -111,9 +119,11 @@ same-length-6 c = search needs
 returns-9 : tie.Need-returns-9
 unfolding soupReply
 returns-9 c =
-    let n = length (now (c .before .before .before .before .before .before .before .before .args .body)) in
-    rw (c .before .before .before .before .before .match .keys6, eq-eqb n 0 (c .before .before .before .before .if3 .left))
-    (c .before .before .login-written .ensures)
+    let w = c .before .before in
+    let i = w .before .before in
+    let m = i .before in
+    let n = length (now (m .before .before .before .args .body)) in
+    rw (m .match .keys6, eq-eqb n 0 (i .if3 .left)) (w .login-written .ensures)
 
 same-length-7 : tie.Need-same-length-7
 same-length-7 c = search needs
@@ -121,17 +131,18 @@ same-length-7 c = search needs
 returns-10 : tie.Need-returns-10
 unfolding soupReply
 returns-10 c =
-    let k = c .before .before .before .before .before .before .before .args .fields .kind in
-    let m = c .before .before .before .before .match .rest in
+    let w = c .before .before in
+    let m = w .before .before in
+    let k = m .before .before .before .args .fields .kind in
+    let r = m .match .rest in
     rw (
-      ne-eqb k 43 (m .0 .0 .0 .0 .0 .1),
-      ne-eqb k 83 (m .0 .0 .0 .0 .1),
-      ne-eqb k 85 (m .0 .0 .0 .1),
-      ne-eqb k 65 (m .0 .0 .1),
-      ne-eqb k
-          74 (m .0 .1),
-      ne-eqb k 76 (m .1),
-    ) (c .before .before .bare-written .ensures)
+      ne-eqb k 43 (r .0 .0 .0 .0 .0 .1),
+      ne-eqb k 83 (r .0 .0 .0 .0 .1),
+      ne-eqb k 85 (r .0 .0 .0 .1),
+      ne-eqb k 65 (r .0 .0 .1),
+      ne-eqb k 74 (r .0 .1),
+      ne-eqb k 76 (r .1),
+    ) (w .bare-written .ensures)
 
 pub written-spec : {M : Type 1} → statement M
 written-spec =

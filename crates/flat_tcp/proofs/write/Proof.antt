@@ -16,8 +16,9 @@ same-length : tie.Need-same-length
 same-length c = search needs
 
 returns : tie.Need-returns
-returns c = rw (c .before .before .before .before .before .fields-of .ensures) at (flattens (c .before .before .before .write .ensures)
-    (c .wrote-of .ensures))
+returns c =
+    let written = c .before .before .before in
+    rw (written .before .before .fields-of .ensures) at (flattens (written .write .ensures) (c .wrote-of .ensures))
 
 pub write-spec : {M : Type 1} → statement M
 write-spec =

@@ -8,6 +8,8 @@ use borrow.Author.Needs.{needs}
 use Rattle.flat_ufo.proofs.written.Statement.{statement}
 use Rattle.flat_ufo.proofs.written.Tie as tie
 
+-- Type by type: a body where none belongs is refused, and otherwise the type's own writer answers.
+
 unfit-requires : tie.Need-unfit-requires
 unfit-requires c κs = search needs
 
@@ -59,14 +61,10 @@ same-length c = search needs
 returns-4 : tie.Need-returns-4
 unfolding downReply
 returns-4 c =
-    let n = length (now (c .before .before .before .before .before .before .before .before .before .before .before .args .body)) in
-    rw (
-      c .before .before .before .before .before .before .before .before .match .keys1,
-      eq-eqb n 0
-          (c .before .before .before .before .before .before .before .if1 .left),
-      ← c .before .before .before .before .name-of .ensures .1,
-    )
-    (c .before .before .write-accept .ensures)
+    let name = c .before .before .before .before in
+    let i = name .before .before .before in
+    let n = length (now (i .before .before .before .before .args .body)) in
+    rw (i .before .match .keys1, eq-eqb n 0 (i .if1 .left), ← name .name-of .ensures .1) (c .before .before .write-accept .ensures)
 
 same-length-2 : tie.Need-same-length-2
 same-length-2 c = search needs
@@ -74,9 +72,9 @@ same-length-2 c = search needs
 returns-5 : tie.Need-returns-5
 unfolding downReply
 returns-5 c =
-    let n = length (now (c .before .before .before .before .before .before .before .before .args .body)) in
-    rw (c .before .before .before .before .before .match .keys2, eq-eqb n 0 (c .before .before .before .before .if2 .left))
-    (c .before .before .write-reject .ensures)
+    let i = c .before .before .before .before in
+    let n = length (now (i .before .before .before .before .args .body)) in
+    rw (i .before .match .keys2, eq-eqb n 0 (i .if2 .left)) (c .before .before .write-reject .ensures)
 
 same-length-3 : tie.Need-same-length-3
 same-length-3 c = search needs
@@ -91,9 +89,9 @@ same-length-4 c = search needs
 returns-7 : tie.Need-returns-7
 unfolding downReply
 returns-7 c =
-    let n = length (now (c .before .before .before .before .before .before .before .before .args .body)) in
-    rw (c .before .before .before .before .before .match .keys4, eq-eqb n 0 (c .before .before .before .before .if3 .left))
-    (c .before .before .write-end .ensures)
+    let i = c .before .before .before .before in
+    let n = length (now (i .before .before .before .before .args .body)) in
+    rw (i .before .match .keys4, eq-eqb n 0 (i .if3 .left)) (c .before .before .write-end .ensures)
 
 returns-8 : tie.Need-returns-8
 unfolding downReply

@@ -19,11 +19,10 @@ same-length c = search needs
 
 returns : tie.Need-returns
 returns c =
-    rw (
-      ← c .before .before .before .before .before .before .before .before .user-of .ensures .1,
-      ← c .before .before .before .before .before .before .name-of .ensures .1,
-      ← c .before .before .before .before .name-of2 .ensures .1,
-    )
+    let name = c .before .before .before .before in
+    let password = name .before .before in
+    let user = password .before .before in
+    rw (← user .user-of .ensures .1, ← password .name-of .ensures .1, ← name .name-of2 .ensures .1)
     (c .before .before .write-login .ensures)
 
 pub login-written-spec : {M : Type 1} → statement M

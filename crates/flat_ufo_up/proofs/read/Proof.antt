@@ -1,3 +1,5 @@
+-- `read` meets its contract: what the room reads of the whole packet, its refusal or how many messages, is laid flat.
+-- Assumes nothing.
 use mathlib.Core.Path.{sym, _∙_}
 use denote.Ref.{now}
 use native.Mathlib.Omega.{arith}
@@ -20,22 +22,24 @@ enum-known-count c = search needs
 
 cast-requested : tie.Need-cast-requested
 cast-requested c =
-    let s = c .before .before .before .before in
-    let n = c .before .count .given .0 .0 in
-    omega (
-      arith,
-      few (now (s .before .args .packet)) (λ i. s .shared-slice-known .given i .fits) n
-          (sym (c .before .before .before .read-up .ensures) ∙ c .before .count .given .1),
-    )
+    let r = c .before .before .before in
+    let s = r .before in
+    let g = c .before .count .given in
+    let h = few (now (s .before .args .packet)) (λ i. s .shared-slice-known .given i .fits) (g .0 .0) (sym (r .read-up .ensures) ∙ g .1) in
+    omega arith
 
 requested-requires : tie.Need-requested-requires
 requested-requires c κs = search needs
 
 returns : tie.Need-returns
-returns c = rw (c .no-packet .ensures, ← c .before .before .before .before .read-up .ensures, c .before .before .n .given .1)
+returns c =
+    let n = c .before .before in
+    rw (c .no-packet .ensures, ← n .before .before .read-up .ensures, n .n .given .1)
 
 returns-2 : tie.Need-returns-2
-returns-2 c = rw (c .requested .ensures, ← c .before .before .before .before .read-up .ensures, c .before .before .count .given .1)
+returns-2 c =
+    let n = c .before .before in
+    rw (c .requested .ensures, ← n .before .before .read-up .ensures, n .count .given .1)
 
 pub read-spec : {M : Type 1} → statement M
 read-spec =

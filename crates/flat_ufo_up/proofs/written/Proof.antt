@@ -8,6 +8,8 @@ use borrow.Author.Needs.{needs}
 use Rattle.flat_ufo_up.proofs.written.Statement.{statement}
 use Rattle.flat_ufo_up.proofs.written.Tie as tie
 
+-- Type by type: a body where none belongs is refused, and otherwise the type's own writer answers.
+
 unfit-requires : tie.Need-unfit-requires
 unfit-requires c κs = search needs
 
@@ -68,9 +70,9 @@ same-length c = search needs
 returns-5 : tie.Need-returns-5
 unfolding messageReply
 returns-5 c =
-    let n = length (now (c .before .before .before .before .before .before .before .before .args .body)) in
-    rw (c .before .before .before .before .before .match .keys1, eq-eqb n 0 (c .before .before .before .before .if1 .left))
-    (c .before .before .login-written .ensures)
+    let i = c .before .before .before .before in
+    let n = length (now (i .before .before .before .before .args .body)) in
+    rw (i .before .match .keys1, eq-eqb n 0 (i .if1 .left)) (c .before .before .login-written .ensures)
 
 same-length-2 : tie.Need-same-length-2
 same-length-2 c = search needs
@@ -78,9 +80,9 @@ same-length-2 c = search needs
 returns-6 : tie.Need-returns-6
 unfolding messageReply
 returns-6 c =
-    let n = length (now (c .before .before .before .before .before .before .before .before .args .body)) in
-    rw (c .before .before .before .before .before .match .keys2, eq-eqb n 0 (c .before .before .before .before .if2 .left))
-    (c .before .before .write-request .ensures)
+    let i = c .before .before .before .before in
+    let n = length (now (i .before .before .before .before .args .body)) in
+    rw (i .before .match .keys2, eq-eqb n 0 (i .if2 .left)) (c .before .before .write-request .ensures)
 
 same-length-3 : tie.Need-same-length-3
 same-length-3 c = search needs
@@ -95,9 +97,9 @@ same-length-4 c = search needs
 returns-8 : tie.Need-returns-8
 unfolding messageReply
 returns-8 c =
-    let n = length (now (c .before .before .before .before .before .before .before .before .args .body)) in
-    rw (c .before .before .before .before .before .match .keys4, eq-eqb n 0 (c .before .before .before .before .if3 .left))
-    (c .before .before .write-heartbeat .ensures)
+    let i = c .before .before .before .before in
+    let n = length (now (i .before .before .before .before .args .body)) in
+    rw (i .before .match .keys4, eq-eqb n 0 (i .if3 .left)) (c .before .before .write-heartbeat .ensures)
 
 same-length-5 : tie.Need-same-length-5
 same-length-5 c = search needs
@@ -105,9 +107,9 @@ same-length-5 c = search needs
 returns-9 : tie.Need-returns-9
 unfolding messageReply
 returns-9 c =
-    let n = length (now (c .before .before .before .before .before .before .before .before .args .body)) in
-    rw (c .before .before .before .before .before .match .keys5, eq-eqb n 0 (c .before .before .before .before .if4 .left))
-    (c .before .before .write-logout .ensures)
+    let i = c .before .before .before .before in
+    let n = length (now (i .before .before .before .before .args .body)) in
+    rw (i .before .match .keys5, eq-eqb n 0 (i .if4 .left)) (c .before .before .write-logout .ensures)
 
 returns-10 : tie.Need-returns-10
 unfolding messageReply
@@ -120,8 +122,7 @@ returns-10 c =
       ne-eqb k 76 (m .0 .0 .0 .0 .1),
       ne-eqb k 84 (m .0 .0 .0 .1),
       ne-eqb k 85 (m .0 .0 .1),
-      ne-eqb k 82
-          (m .0 .1),
+      ne-eqb k 82 (m .0 .1),
       ne-eqb k 79 (m .1),
     )) (c .unfit5 .ensures)
 

@@ -24,7 +24,7 @@ use contract.Monad.{Fun, fact}
 use contract.Running.{givenOf, tables, tablesOf}
 use types.Kit.{Given, ‵, raw, some, later, _⊛_, ⋆, _$_, _∵_, !, qed, by, move, keep, drop, use1, use2, split, join, pick, rewrite, fsplit}
 use types.Kit.{fsplit3, fjoin, fjoin3, feqI, suffices, frame, await, done}
-use types.Run.{look, look-raw, init, store-raw, stop, hop, fld, from, load, of-opd, and-then, no-more, assigns, assigns-last, first, skips}
+use types.Run.{look, look-raw, init, store-raw, stop, hop, fld, from, load, of-opd, and-then, no-more, assigns, assigns-last, skips}
 use types.Run.{land, returns, enter, alloc1, alloc0, params1, pass1, pass0}
 use types.Part.{whole, look-in}
 use types.Match.{live, vrt, in-variant, look-tag, by-variants}
@@ -274,21 +274,15 @@ module _ {M : Type 1} (𝓤 : URA M) (H : Heap 𝓤) (A : Atoms 𝓤) (W : Given
   walks C Λ fm known = walked 𝓤 H A f.ended stayed (f.clauses 𝓤 H A mem run) (WpFn 𝓤 H C Λ code.function)
       (λ κs. (ptr-vals, ((λ d. S′.lowered d ∷ []), ((λ d. P′.lowered d ∷ []), (float-vals binary64, tt)))))
       (λ κs. (mut-tells (named 0) (κs .0) R.the-row, (S′.lowers .val-is, (P′.lowers .val-is, (float-tells binary64, tt)))))
-      (λ κs qs bounds a g are. via 𝓤 _ (fst∗ 𝓤 _ (emp 𝓤))
-      (walk 𝓤 H A W mem run (κs .0) (qs .0) (a .0 .ptr .0) (a .0 .ptr .1) (a .0 .name) (a .0 .now) (a .1 .0) (a .1 .1 .0)
-      (a .1 .1 .1 .0) (are .1 .0) (are .1 .1 .0) (are .1 .1 .1 .0) C Λ fm known))
+      (λ (κ, _) (q, _) bounds (lent, (sheet, (rule, (elapsed, _)))) g (_, (s-is, (p-is, (m-is, _)))). via 𝓤 _ (fst∗ 𝓤 _ (emp 𝓤))
+      (walk 𝓤 H A W mem run κ q (lent .ptr .0) (lent .ptr .1) (lent .name) (lent .now) sheet rule elapsed s-is p-is m-is C Λ fm known))
 
   gone : AllGo 𝓤 H A W 1 (f.signature .params) (f.ended .kept) stayed
   gone = (
     goes-ref 𝓤 H A W 1 0 tt (plain (λ _. R.the-row)),
     (
-      goes-none 𝓤 H A W 1 (λ _. S.the-row) yes
-          (λ κs x f. refl),
-      (
-        goes-none 𝓤 H A W 1 (λ _. P.the-row) yes
-            (λ κs x f. refl),
-        (goes-none 𝓤 H A W 1 (λ _. f64) yes (λ κs x f. refl), tt),
-      ),
+      goes-none 𝓤 H A W 1 (λ _. S.the-row) yes (λ κs x f. refl),
+      (goes-none 𝓤 H A W 1 (λ _. P.the-row) yes (λ κs x f. refl), (goes-none 𝓤 H A W 1 (λ _. f64) yes (λ κs x f. refl), tt)),
     ),
   )
 

@@ -200,11 +200,11 @@ module _ {M : Type 1} (𝓤 : URA M) (H : Heap 𝓤) (A : Atoms 𝓤) (W : Given
 
   exits : (r : Taken) (d : Record) (xs zs : List ℕ) → Met r xs zs d → length xs ≡ length (x .now) → length zs ≡ length (z .now)
       → Is T.the-row r (T′.lowered r ∷ [])
-      → ent 𝓤 (⋆ 𝓤 H A (‵ (fobs γ (R.the-row .coded .code d)) ∷ ‵ (fbor κ (Body (mem R.the-row) b o γ)) ∷ ‵ (flft κ q) ∷ Tokens ∷ ‵
-      (finally u8 (z .name) zs) ∷ ‵ (finally u8 (x .name) xs) ∷ ‵ OwnY ∷ [])) (Post (T′.lowered r))
+      → ent 𝓤 (⋆ 𝓤 H A (‵ (fobs γ (R.the-row .coded .code d)) ∷ ‵ (fbor κ (Body (mem R.the-row) b o γ)) ∷ ‵ (flft κ q) ∷ Tokens ∷
+      ‵ (finally u8 (z .name) zs) ∷ ‵ (finally u8 (x .name) xs) ∷ ‵ OwnY ∷ [])) (Post (T′.lowered r))
   exits r d xs zs e lx lz is =
-      qed W (‵ (fobs γ (R.the-row .coded .code d)) ∷ ‵ (fbor κ (Body (mem R.the-row) b o γ)) ∷ ‵ (flft κ q) ∷ Tokens ∷ ‵
-      (finally u8 (z .name) zs) ∷ ‵ (finally u8 (x .name) xs) ∷ ‵ OwnY ∷ []) ∵
+      qed W (‵ (fobs γ (R.the-row .coded .code d)) ∷ ‵ (fbor κ (Body (mem R.the-row) b o γ)) ∷ ‵ (flft κ q) ∷ Tokens ∷
+      ‵ (finally u8 (z .name) zs) ∷ ‵ (finally u8 (x .name) xs) ∷ ‵ OwnY ∷ []) ∵
       suffices ! _ (ends-at 𝓤 H A f.ended stayed (f.clauses 𝓤 H A at-mem run) W
       (((κ, (κ₁, (κ₂, (κ₃, tt)))), (q, (q₁, (q₂, (q₃, tt)))), tt, a, vals), tt) (T′.lowered r) r (d, (xs, (tt, (zs, tt))))
       (tt, (lx, (tt, (lz, tt))))) $ says ! e $
@@ -218,8 +218,8 @@ module _ {M : Type 1} (𝓤 : URA M) (H : Heap 𝓤) (A : Atoms 𝓤) (W : Given
         → ent 𝓤 (onEntry 𝓤 H A f.signature (κ, (κ₁, (κ₂, (κ₃, tt)))) (q, (q₁, (q₂, (q₃, tt)))) a vals)
         (WpFn 𝓤 H C Λ code.function (vptr b o ∷ sx ∷ sy ∷ sz ∷ []) Post)
     walk room-x room-y room-z =
-        qed W ((‵ (flft κ q) ⊛ Tokens) ∷ ‵
-        (owns (MutRef (named 0) κ R.the-row ∷ MutSlice (named 1) κ₁ u8 ∷ ShrSlice (named 2) κ₂ u8 ∷ MutSlice (named 3) κ₃ u8 ∷ []) a
+        qed W ((‵ (flft κ q) ⊛ Tokens) ∷
+        ‵ (owns (MutRef (named 0) κ R.the-row ∷ MutSlice (named 1) κ₁ u8 ∷ ShrSlice (named 2) κ₂ u8 ∷ MutSlice (named 3) κ₃ u8 ∷ []) a
         vals) ∷ []) ∵ enter ! C Λ code.function (vptr b o ∷ sx ∷ sy ∷ sz ∷ []) _ $
         alloc1 ! (λ l₀. alloc1 ! (λ l₁. alloc1 !
         (λ l₂. alloc1 ! (λ l₃. alloc1 !
@@ -257,8 +257,8 @@ module _ {M : Type 1} (𝓤 : URA M) (H : Heap 𝓤) (A : Atoms 𝓤) (W : Given
         (ensured 𝓤 H A take.ended (take.clauses 𝓤 H A at-mem run) (κ₁, (κ₂, (κ₃, tt))) (h, (x, (y, (z, tt)))) tt r)))) (id⊢ 𝓤 _)
         $ await ! tt $ pick ! (λ r.
         split ! $ move ! (1 ∷ []) $ use1 W
-        (some (λ (ws : Unit {0} × (List ℕ × (Unit {0} × (List ℕ × Unit {0})))). ‵
-        (lasts take.ended (κ₁, (κ₂, (κ₃, tt))) (h, (x, (y, (z, tt)))) ws) ⊛ raw (fact 𝓤 (Said r (ws .1 .0) (ws .1 .1 .1 .0)))))
+        (some (λ (ws : Unit {0} × (List ℕ × (Unit {0} × (List ℕ × Unit {0})))).
+        ‵ (lasts take.ended (κ₁, (κ₂, (κ₃, tt))) (h, (x, (y, (z, tt)))) ws) ⊛ raw (fact 𝓤 (Said r (ws .1 .0) (ws .1 .1 .1 .0)))))
         (id⊢ 𝓤 _) $ pick ! (λ ws.
         split ! $ move ! (1 ∷ []) $ heard ! (Said r (ws .1 .0) (ws .1 .1 .1 .0))
         (λ e. fsplit ! $ drop ! $ fsplit ! $ fsplit ! $ move ! (1 ∷ [])
@@ -283,9 +283,8 @@ module _ {M : Type 1} (𝓤 : URA M) (H : Heap 𝓤) (A : Atoms 𝓤) (W : Given
               (init ! 32 refl (EL.lawful T.the-type T′.the-laws 𝓤 H A W tt .typed r _ (answer-is r w is) .0)) $
               drop ! $ move ! (5 ∷ 6 ∷ 7 ∷ 8 ∷ []) $ closed ! tt (kept h r) (after-is h r w is one) b o $
               -- [obs; the borrow; its token; the slices' tokens; the output's last list; …; the area's; what the datagram owns; _11; …]
-              returns ! (look ! 30 refl)
-              $ leaves ! 8 (held _ ∷ held _ ∷ held _ ∷ held _ ∷ held _ ∷ held _ ∷ held _ ∷ held _ ∷ held _ ∷ held _ ∷ held _ ∷ held
-              _ ∷ []) refl $
+              returns ! (look ! 30 refl) $ leaves ! 8
+              (held _ ∷ held _ ∷ held _ ∷ held _ ∷ held _ ∷ held _ ∷ held _ ∷ held _ ∷ held _ ∷ held _ ∷ held _ ∷ held _ ∷ []) refl $
               keep ! (0 ∷ 1 ∷ 2 ∷ 3 ∷ 4 ∷ 6 ∷ 7 ∷ [])
               $ by ! (exits r (kept h r) (ws .1 .0) (ws .1 .1 .1 .0) (met r (ws .1 .0) (ws .1 .1 .1 .0) (kept h r) e refl) lx lz
               (answer-is r w is))),
@@ -295,9 +294,8 @@ module _ {M : Type 1} (𝓤 : URA M) (H : Heap 𝓤) (A : Atoms 𝓤) (W : Given
                 assigns ! (of-opd ! (load ! (from ! (stop !)) (look ! 20 refl))) (from ! (stop !))
                 (init ! 32 refl (EL.lawful T.the-type T′.the-laws 𝓤 H A W tt .typed r _ (answer-is r w is) .0)) $
                 drop ! $ move ! (5 ∷ 6 ∷ 7 ∷ 8 ∷ []) $ closed ! tt h was b o $
-                returns ! (look ! 30 refl)
-                $ leaves ! 8 (held _ ∷ held _ ∷ held _ ∷ held _ ∷ held _ ∷ held _ ∷ held _ ∷ bare ∷ held _ ∷ held _ ∷ held _ ∷ held
-                _ ∷ []) refl $
+                returns ! (look ! 30 refl) $ leaves ! 8
+                (held _ ∷ held _ ∷ held _ ∷ held _ ∷ held _ ∷ held _ ∷ held _ ∷ bare ∷ held _ ∷ held _ ∷ held _ ∷ held _ ∷ []) refl $
                 keep ! (0 ∷ 1 ∷ 2 ∷ 3 ∷ 4 ∷ 6 ∷ 7 ∷ [])
                 $ by ! (exits r h (ws .1 .0) (ws .1 .1 .1 .0) (met r (ws .1 .0) (ws .1 .1 .1 .0) h e (refused-so h r nought)) lx lz
                 (answer-is r w is))),
@@ -310,19 +308,14 @@ module _ {M : Type 1} (𝓤 : URA M) (H : Heap 𝓤) (A : Atoms 𝓤) (W : Given
       → Walks 𝓤 H A f.ended stayed (WpFn 𝓤 H C Λ code.function) (f.clauses 𝓤 H A mem run)
   walks C Λ fm known = walked 𝓤 H A f.ended stayed (f.clauses 𝓤 H A mem run) (WpFn 𝓤 H C Λ code.function)
       (λ κs. (ptr-vals, (slice-vals, (slice-vals, (slice-vals, tt)))))
-      (λ κs. (
-        mut-tells (named 0) (κs .0)
-            R.the-row,
-        (
-          mut-slice-tells (named 1) (κs .1 .0)
-              u8,
-          (shr-slice-tells (named 2) (κs .1 .1 .0) u8, (mut-slice-tells (named 3) (κs .1 .1 .1 .0) u8, tt)),
-        ),
+      (λ (κ, (κ₁, (κ₂, (κ₃, _)))). (
+        mut-tells (named 0) κ R.the-row,
+        (mut-slice-tells (named 1) κ₁ u8, (shr-slice-tells (named 2) κ₂ u8, (mut-slice-tells (named 3) κ₃ u8, tt))),
       ))
-      (λ κs qs bounds a g are. via 𝓤 _ (fst∗ 𝓤 _ (emp 𝓤))
-      (walk 𝓤 H A W mem run (κs .0) (κs .1 .0) (κs .1 .1 .0) (κs .1 .1 .1 .0) (qs .0) (qs .1 .0) (qs .1 .1 .0) (qs .1 .1 .1 .0)
-      (a .0 .ptr .0) (a .0 .ptr .1) (a .0 .name) (a .0 .now) (a .1 .0) (a .1 .1 .0) (a .1 .1 .1 .0) C Λ fm known (are .1 .0 .0 .1)
-      (are .1 .1 .0 .0 .1) (are .1 .1 .1 .0 .0 .1)))
+      (λ (κ, (κ₁, (κ₂, (κ₃, _)))) (q, (q₁, (q₂, (q₃, _)))) bounds (lent, (area, (datagram, (out, _)))) g (_, (x-is, (y-is, (z-is, _)))).
+      via 𝓤 _ (fst∗ 𝓤 _ (emp 𝓤))
+      (walk 𝓤 H A W mem run κ κ₁ κ₂ κ₃ q q₁ q₂ q₃ (lent .ptr .0) (lent .ptr .1) (lent .name) (lent .now) area datagram out C Λ fm known
+      (x-is .0 .1) (y-is .0 .1) (z-is .0 .1)))
 
   gone : AllGo 𝓤 H A W 4 (f.signature .params) (f.ended .kept) stayed
   gone = (

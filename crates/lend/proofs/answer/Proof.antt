@@ -14,7 +14,13 @@ use Rattle.lend.proofs.Replies.{answers-packed, answers-end, answers-be
 use Rattle.lend.proofs.answer.Statement.{statement}
 use Rattle.lend.proofs.answer.Tie as tie
 
-hung : (c : tie.Else1) → let a = c .before .before .before .before .args in hangs (a .log) (now (a .bytes)) ≡ true
+-- The four refusals are the definition's checks; past them the answer is a packet of messages, an end or a heartbeat (`Replies`).
+
+-- past its first test the log hangs together
+abbrev start : tie.Else1 → tie.Start
+start c = c .before .before .before .before
+
+hung : (c : tie.Else1) → let a = start c .args in hangs (a .log) (now (a .bytes)) ≡ true
 hung c = held (c .before .hangs-together .ensures) (c .if1 .left)
 
 hangs-together-requires : tie.Need-hangs-together-requires
@@ -27,24 +33,23 @@ returns c = refuses _ _ 10 (rw (failed (c .before .hangs-together .ensures) (c .
 returns-2 : tie.Need-returns-2
 unfolding answerReply
 returns-2 c =
-    let a = c .before .before .before .before .before .args in
+    let a = start (c .before) .args in
     refuses _ _ 6 (rw (hung (c .before), eq-eqb (a .first .0) 0 (omega arith)))
 
 returns-3 : tie.Need-returns-3
 unfolding answerReply
 returns-3 c =
-    let a = c .before .before .before .before .before .before .args in
+    let a = start (c .before .before) .args in
     refuses _ _ 6 (rw (hung (c .before .before), ne-eqb (a .first .0) 0 (λ e. omega arith), eq-eqb (a .count) 0 (omega arith)))
 
 returns-4 : tie.Need-returns-4
 unfolding answerReply
 returns-4 c =
-    let a = c .before .before .before .before .before .before .before .args in
+    let a = start (c .before .before .before) .args in
     refuses _ _ 9 (rw (
       hung (c .before .before .before),
       ne-eqb (a .first .0) 0 (λ e. omega arith),
-      ne-eqb (a .count) 0
-          (λ e. omega arith),
+      ne-eqb (a .count) 0 (λ e. omega arith),
       lt-leb limit (length (now (a .out))) (omega arith),
     ))
 
@@ -56,10 +61,13 @@ same-length c = search needs
 
 returns-5 : tie.Need-returns-5
 returns-5 c =
-    let d = c .before .before .before .before .before .before .before .before in
-    let a = d .before .before .before .before .args in
-    settled-by (answers-packed (a .log) (now (a .bytes)) (hung d) (a .first .0) (a .count) (length (now (a .out))) (omega arith)
-    (omega arith) (omega arith) (omega arith)) (c .before .before .send .ensures)
+    let there = c .before .before .before .before in
+    let d = there .before .before .before .before in
+    let a = start d .args in
+    settled-by
+    (answers-packed (a .log) (now (a .bytes)) (hung d) (a .first .0) (a .count) (length (now (a .out)))
+    (omega arith) (omega arith) (omega arith) (omega arith))
+    (c .before .before .send .ensures)
 
 write-end-requires : tie.Need-write-end-requires
 write-end-requires c κs = search needs
@@ -69,10 +77,13 @@ same-length-2 c = search needs
 
 returns-6 : tie.Need-returns-6
 returns-6 c =
-    let d = c .before .before .before .before .before .before .before .before .before in
-    let a = d .before .before .before .before .args in
-    settled-by (answers-end (a .log) (now (a .bytes)) (hung d) (a .first .0) (a .count) (length (now (a .out))) (omega arith) (omega arith)
-    (omega arith) (omega arith) (c .before .before .before .before .if6 .taken)) (c .before .before .write-end .ensures)
+    let over = c .before .before .before .before in
+    let d = over .before .before .before .before .before in
+    let a = start d .args in
+    settled-by
+    (answers-end (a .log) (now (a .bytes)) (hung d) (a .first .0) (a .count) (length (now (a .out)))
+    (omega arith) (omega arith) (omega arith) (omega arith) (over .if6 .taken))
+    (c .before .before .write-end .ensures)
 
 add-t17 : tie.Need-add-t17
 add-t17 c = search needs
@@ -88,10 +99,13 @@ same-length-3 c = search needs
 
 returns-7 : tie.Need-returns-7
 returns-7 c =
-    let d = c .before .before .before .before .before .before .before .before .before .before in
-    let a = d .before .before .before .before .args in
-    settled-by (answers-beat (a .log) (now (a .bytes)) (hung d) (a .first .0) (a .count) (length (now (a .out))) (omega arith) (omega arith)
-    (omega arith) (omega arith) (c .before .before .before .before .before .if6 .left)) (c .before .before .write-messages .ensures)
+    let going = c .before .before .before .before .before in
+    let d = going .before .before .before .before .before in
+    let a = start d .args in
+    settled-by
+    (answers-beat (a .log) (now (a .bytes)) (hung d) (a .first .0) (a .count) (length (now (a .out)))
+    (omega arith) (omega arith) (omega arith) (omega arith) (going .if6 .left))
+    (c .before .before .write-messages .ensures)
 
 pub answer-spec : {M : Type 1} → statement M
 answer-spec =

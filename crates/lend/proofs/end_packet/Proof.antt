@@ -1,3 +1,5 @@
+-- `end_packet` meets its contract: 10, then 12, and then the end packet, if it has room.
+-- Assumes nothing.
 use mathlib.Core.Path.{_≡_}
 use mathlib.Core.Bool.{true}
 use denote.Ref.{now}
@@ -36,10 +38,11 @@ same-length c = search needs
 
 returns-3 : tie.Need-returns-3
 returns-3 c =
-    let d = c .before .before .before .before .before in
-    let a = d .before .before .before .before .args in
-    settled-by (replies-end (a .log) (now (a .bytes)) (hung d) (length (now (a .out)))
-    (not-false (a .log .ended) (c .before .before .before .before .if2 .left))) (c .before .before .write-end .ensures)
+    let over = c .before .before .before .before in
+    let a = over .before .before .before .before .before .args in
+    let e = not-false (a .log .ended) (over .if2 .left) in
+    settled-by (replies-end (a .log) (now (a .bytes)) (hung (over .before)) (length (now (a .out))) e)
+    (c .before .before .write-end .ensures)
 
 pub end-packet-spec : {M : Type 1} → statement M
 end-packet-spec =

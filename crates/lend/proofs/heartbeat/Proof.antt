@@ -1,3 +1,5 @@
+-- `heartbeat` meets its contract: 10, and then the packet that names the next number, if it has room.
+-- Assumes nothing.
 use mathlib.Core.Path.{_≡_}
 use mathlib.Core.Bool.{true}
 use denote.Ref.{now}

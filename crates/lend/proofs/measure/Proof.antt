@@ -11,6 +11,8 @@ use Rattle.lend.proofs.Measuring.{run-on, run-torn, run-full, run-done}
 use Rattle.lend.proofs.measure.Statement.{statement}
 use Rattle.lend.proofs.measure.Tie as tie
 
+-- The whole pass is what is left of it from the place where the last block ended; a turn goes one block on, or stops it (`Measuring`).
+
 abbrev Inv-loop : tie.InvT-loop
 Inv-loop s at count end₀ k₀ end k = (at ≤ end) × (k ≤ count) × (run s at at 0 count ≡ run s at end k (count - k))
 
@@ -19,7 +21,8 @@ abbrev μ-loop : tie.MeasureT-loop
 
 -- the block that a turn found
 step : (c : tie.After-known-told Inv-loop μ-loop) → let d = c .before .before .before .before .before in
-    let g = c .before .next2 .given .0 in Stands (now (d .before .before .args .s)) (d .loop .end) (g .1 .0) (g .1 .1 .0)
+    let g = c .before .next2 .given .0 in
+    Stands (now (d .before .before .args .s)) (d .loop .end) (g .1 .0) (g .1 .1 .0)
 step c =
     let d = c .before .before .before .before .before in
     let g = c .before .next2 .given in
@@ -48,8 +51,9 @@ sub-if1-2 c = let f = step c in omega arith
 
 returns : tie.Need-returns Inv-loop μ-loop
 returns c =
-    let l = c .before .before .before .before .before .before .loop in
-    let a = c .before .before .before .before .before .before .before .before .args in
+    let d = c .before .before .before .before .before .before in
+    let l = d .loop in
+    let a = d .before .before .args in
     let f = step (c .before) in
     let e = ap (run (now (a .s)) (a .at) (l .end) (l .k)) (turn (a .count) (l .k) (omega arith)) in
     sym (l .inv .2 ∙ e ∙ run-full (now (a .s)) (a .at) (l .end) (l .k) (a .count - (l .k + 1)) (omega arith))
@@ -62,8 +66,9 @@ loop-less c = search needs
 
 loop-again : tie.Need-loop-again Inv-loop μ-loop
 loop-again c =
-    let l = c .before .before .before .before .before .before .loop in
-    let a = c .before .before .before .before .before .before .before .before .args in
+    let d = c .before .before .before .before .before .before in
+    let l = d .loop in
+    let a = d .before .before .args in
     let f = step (c .before) in
     let e = ap (run (now (a .s)) (a .at) (l .end) (l .k)) (turn (a .count) (l .k) (omega arith)) in (
       omega arith,
@@ -76,8 +81,9 @@ enum-told c = search needs
 
 returns-2 : tie.Need-returns-2 Inv-loop μ-loop
 returns-2 c =
-    let l = c .before .before .before .before .loop in
-    let a = c .before .before .before .before .before .before .args in
+    let d = c .before .before .before .before in
+    let l = d .loop in
+    let a = d .before .before .args in
     let g = c .enum-told .given in
     let f = missed (now (a .s)) (l .end) (g .0 .0) (sym (c .before .before .next .ensures) ∙ g .1) in
     let e = ap (run (now (a .s)) (a .at) (l .end) (l .k)) (turn (a .count) (l .k) (omega arith)) in

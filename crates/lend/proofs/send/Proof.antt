@@ -9,19 +9,26 @@ use Rattle.lend.proofs.Packing.{Sent, sent, never-refused}
 use Rattle.lend.proofs.send.Statement.{statement}
 use Rattle.lend.proofs.send.Tie as tie
 
+-- What the code finds are the place and the run of the packet with the most messages (`Packing`), so its writer's reply is that packet.
+
 -- the place and the run that were found
-found : (c : tie.After-measure) → let d = c .before .before .before .before .before .before .before .before in let a = d .args in
-    let q = d .pre in Sent (a .log) (now (a .bytes)) (a .first .0) (a .count) (q .0) (q .1) (q .2) (length (now (a .out)))
+abbrev start : tie.After-skip → tie.Start
+start c = c .before .before .before .before
+
+found : (c : tie.After-measure) → let d = start (c .before .before .before .before) in
+    let a = d .args in
+    let q = d .pre in
+    Sent (a .log) (now (a .bytes)) (a .first .0) (a .count) (q .0) (q .1) (q .2) (length (now (a .out)))
     (c .before .before .at .given .0 .0) (c .measure .result)
 found c =
-    let d = c .before .before .before .before .before .before .before in
-    let a = d .before .args in
-    let q = d .before .pre in
+    let skipped = c .before .before .before .before in
+    let a = start skipped .args in
+    let q = start skipped .pre in
     let at = c .before .before .at .given in
     sent (a .log) (now (a .bytes)) (a .first .0) (a .count) (q .0) (q .1) (q .2) (length (now (a .out))) (at .0 .0) (c .measure .result)
-    (λ i. d .shared-slice-known .given i .fits)
+    (λ i. skipped .before .before .before .shared-slice-known .given i .fits)
     (q .3)
-    (sym (c .before .before .before .before .skip .ensures) ∙ at .1)
+    (sym (skipped .skip .ensures) ∙ at .1)
     (c .measure .ensures)
 
 slice-aggregate-held : tie.Need-slice-aggregate-held
@@ -66,11 +73,11 @@ returns c =
 
 returns-2 : tie.Need-returns-2
 returns-2 c =
-    let d = c .before .before .before .before .before .before .before in
-    let a = d .args in
-    let q = d .pre in
+    let skipped = c .before .before .before in
+    let a = start skipped .args in
+    let q = start skipped .pre in
     never-refused (a .log) (now (a .bytes)) (a .first .0) (a .count) (q .0) (q .1) (q .2) (c .before .n .given .0 .0)
-    (sym (c .before .before .before .skip .ensures) ∙ c .before .n .given .1)
+    (sym (skipped .skip .ensures) ∙ c .before .n .given .1)
 
 pub send-spec : {M : Type 1} → statement M
 send-spec =

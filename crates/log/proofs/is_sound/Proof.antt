@@ -10,6 +10,8 @@ use Rattle.log.proofs.Passes.{long-turn, good-turn, torn-turn, last-tur
 use Rattle.log.proofs.is_sound.Statement.{statement}
 use Rattle.log.proofs.is_sound.Tie as tie
 
+-- The whole is sound exactly if what is left is, from the place where the last block ended; a turn goes one block on (`Passes`).
+
 abbrev Inv-loop : tie.InvT-loop
 Inv-loop s count at₀ left₀ at left = (at ≤ length s) × (sound (cut count s) ≡ sound (cut left (drop at s)))
 

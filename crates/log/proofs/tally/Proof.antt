@@ -13,6 +13,9 @@ use Rattle.log.proofs.Passes.{tallyFrom, tally-starts, tally-torn, tall
 use Rattle.log.proofs.tally.Statement.{statement}
 use Rattle.log.proofs.tally.Tie as tie
 
+-- What the count comes to is the count so far and what is left, from the place where the last block ended (`tallyFrom`); a turn goes one
+-- block on.
+
 abbrev Inv-loop : tie.InvT-loop
 Inv-loop s at₀ count₀ small₀ at count small = (at ≤ length s) × (count ≤ at)
     × (tallied (toTheEnd s) ≡ tallyFrom count small (cutAll (suc (length s - count)) (drop at s)))
@@ -21,9 +24,9 @@ abbrev μ-loop : tie.MeasureT-loop
 μ-loop s at₀ count₀ small₀ at count small = length s - at
 
 -- a turn that found a block
-step : (c : tie.After-known-told Inv-loop μ-loop) → let l = c .before .before .before .before .before .loop in
-    let g = c .before .length .given .0 in Turned (now (c .before .before .before .before .before .before .before .args .s)) (l .at)
-    (l .count) (l .small) (g .1 .0) (g .1 .1 .0)
+step : (c : tie.After-known-told Inv-loop μ-loop) → let d = c .before .before .before .before .before in
+    let g = c .before .length .given .0 in
+    Turned (now (d .before .before .args .s)) (d .loop .at) (d .loop .count) (d .loop .small) (g .1 .0) (g .1 .1 .0)
 step c =
     let d = c .before .before .before .before .before in
     let g = c .before .length .given in
@@ -58,12 +61,13 @@ enum-known-n c = search needs
 
 returns : tie.Need-returns Inv-loop μ-loop
 returns c =
-    let l = c .before .before .before .before .before .loop in
-    let s = now (c .before .before .before .before .before .before .before .args .s) in
+    let d = c .before .before .before .before in
+    let l = d .before .loop in
+    let s = now (d .before .before .before .args .s) in
     let g = c .before .n .given in
     let f = missed s (l .at) (g .0 .0) (sym (c .before .before .before .next .ensures) ∙ g .1) in
-    rw (f .0) (sym (l .inv .2 ∙ tally-torn s (l .at) (length s - l .count) (l .count) (l .small)
-    (c .before .before .before .before .loop-test .taken) (f .1)))
+    rw (f .0)
+    (sym (l .inv .2 ∙ tally-torn s (l .at) (length s - l .count) (l .count) (l .small) (d .loop-test .taken) (f .1)))
 
 returns-2 : tie.Need-returns-2 Inv-loop μ-loop
 returns-2 c =

@@ -12,9 +12,19 @@ use borrow.Author.Needs.{needs}
 use Rattle.memx_write.proofs.put_header.Statement.{statement}
 use Rattle.memx_write.proofs.put_header.Tie as tie
 
+-- The type and the header's length are stored byte by byte, and what follows by calls; together they are the header (`header-put`).
+
+-- the start, from where the session was put, and that place, from where the number was
+abbrev start : tie.After-put8 → tie.Start
+start c = c .before .before .before .before
+
+abbrev session-put : tie.After-put82 → tie.After-put8
+session-put c = c .before .before .before .before
+
 -- the type and the header's length leave the output as long as it was
-kept : (out : List ℕ) (kind header : ℕ) → length (set (set out 0 kind) 1 header) ≡ length out
-kept out kind header = simp length-set
+kept : (c : tie.Start) → let a = c .args in
+    length (set (set (now (a .out)) 0 (a .kind)) 1 (headerSize + length (now (a .extra)))) ≡ length (now (a .out))
+kept c = simp length-set
 
 -- and the two numbers and the extra bytes after them make the header
 stored : (out a b left extra : List ℕ) (kind session number : ℕ) → a ≡ sets (set (set out 0 kind) 1 (headerSize + length extra)) 2
@@ -39,24 +49,21 @@ put8-requires : tie.Need-put8-requires
 put8-requires c κs = simp length-set (omega arith)
 
 put8-requires-2 : tie.Need-put8-requires-2
-put8-requires-2 c κs = let a = c .before .before .before .before .before .before .before .args in
-    omega (arith, kept (now (a .out)) (a .kind) (headerSize + length (now (a .extra))))
+put8-requires-2 c κs = omega (arith, kept (start (c .before .before .before)))
 
 copy-requires : tie.Need-copy-requires
-copy-requires c κs = let a = c .before .before .before .before .before .before .before .before .before .before .before .args in
-    let k = kept (now (a .out)) (a .kind) (headerSize + length (now (a .extra))) in (omega arith, omega arith)
+copy-requires c κs = let k = kept (start (session-put (c .before .before .before))) in (omega arith, omega arith)
 
 same-length : tie.Need-same-length
-same-length c = let a =
-    c .before .before .before .before .before .before .before .before .before .before .before .before .before .before .args in
-    omega (arith, kept (now (a .out)) (a .kind) (headerSize + length (now (a .extra))))
+same-length c = omega (arith, kept (start (session-put (c .before .before .before .before .before .before))))
 
 returns : tie.Need-returns
 returns c =
-    let a = c .before .before .before .before .before .before .before .before .before .before .before .before .before .before .args in
-    stored (now (a .out)) _ _ _ (now (a .extra)) (a .kind) (a .session .0) (a .number .0)
-    (c .before .before .before .before .before .before .before .before .before .before .put8 .ensures)
-    (c .before .before .before .before .before .before .put82 .ensures) (c .before .before .copy .ensures)
+    let number = c .before .before .before .before .before .before in
+    let session = session-put number in
+    let a = start session .args in
+    stored (now (a .out)) _ _ _ (now (a .extra)) (a .kind) (a .session .0) (a .number .0) (session .put8 .ensures) (number .put82 .ensures)
+    (c .before .before .copy .ensures)
 
 pub put-header-spec : {M : Type 1} → statement M
 put-header-spec =

@@ -1,3 +1,5 @@
+-- `put_messages` meets its contract: header, count and blocks, stored one after the other, are the packet.
+-- Assumes nothing.
 use Prim.Native.Nat.{ℕ, _+_}
 use mathlib.Core.List.{List, []}
 use mathlib.Core.Path.{_≡_}
@@ -38,11 +40,11 @@ same-length c = search needs
 
 returns : tie.Need-returns
 returns c =
-    let a = c .before .before .before .before .before .before .before .before .before .before .before .before .before .before .before .args
-    in
-    stored (now (a .out)) _ _ _ (now (a .extra)) (now (a .blocks)) (a .session .0) (a .first .0) (a .count)
-    (c .before .before .before .before .before .before .before .before .before .before .put-header .ensures)
-    (c .before .before .before .before .before .before .put2 .ensures) (c .before .before .copy .ensures)
+    let count = c .before .before .before .before .before .before in
+    let header = count .before .before .before .before in
+    let a = header .before .before .before .before .before .args in
+    stored (now (a .out)) _ _ _ (now (a .extra)) (now (a .blocks)) (a .session .0) (a .first .0) (a .count) (header .put-header .ensures)
+    (count .put2 .ensures) (c .before .before .copy .ensures)
 
 pub put-messages-spec : {M : Type 1} → statement M
 put-messages-spec =

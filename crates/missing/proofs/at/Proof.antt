@@ -1,3 +1,5 @@
+-- `at` meets its contract: the range at a place, from the start, is the one at a lower place from a later range on.
+-- Assumes nothing.
 use Prim.Native.Nat.{_+_, _-_, _≤_}
 use mathlib.Core.Path.{_≡_}
 use mathlib.Core.List.{[]}
@@ -18,6 +20,7 @@ Inv-loop held next top place none reach left₀ first₀ left first =
 abbrev μ-loop : tie.MeasureT-loop
 μ-loop held next top place none reach left₀ first₀ left first = 32 - first
 
+-- Each turn passes one range; the one asked for stands at what is left of the place, among the ranges from the next missing number on.
 returns : tie.Need-returns Inv-loop μ-loop
 returns c =
     let a = c .before .args in
@@ -46,9 +49,10 @@ returns-2 c =
 
 returns-3 : tie.Need-returns-3 Inv-loop μ-loop
 returns-3 c =
-    let a = c .before .before .before .before .before .before .args in
-    let p = c .before .before .before .before .loop in
-    let l = c .before .before .last-of in
+    let found = c .before .before in
+    let p = found .before .before .loop in
+    let a = found .before .before .before .before .args in
+    let l = found .last-of in
     let e = the-last (isHeld (a .held) (a .next)) (a .next) (a .top - a .next) (p .first) (l .result) (l .ensures) (c .if3 .taken) in
     rw (p .inv .0, e, at-later ((a .next + p .first) to (a .next + l .result)) [] (p .left) (c .before .if2 .left))
 
@@ -58,16 +62,20 @@ sub-left c = omega arith
 -- a range that ends before the top ends before a held message, and the next one begins behind that
 near : (c : tie.Else3 Inv-loop μ-loop) → c .before .before .last-of .result + 1 ≤ 31
 near c =
-    let a = c .before .before .before .before .before .before .args in
-    let l = c .before .before .last-of in
-    held-near (a .held) (a .next) (a .top - a .next) (c .before .before .before .before .loop .first) (l .result) (l .ensures) (omega arith)
+    let found = c .before .before in
+    let p = found .before .before .loop in
+    let a = found .before .before .before .before .args in
+    let l = found .last-of in
+    held-near (a .held) (a .next) (a .top - a .next) (p .first) (l .result) (l .ensures) (omega arith)
 
 onward : (c : tie.After-past-held Inv-loop μ-loop) → c .before .before .before .last-of .result + 2 ≤ c .past-held .result
 onward c =
-    let a = c .before .before .before .before .before .before .before .args in
-    let l = c .before .before .before .last-of in
-    apart-by (isHeld (a .held) (a .next)) (a .next) (a .top - a .next) (c .before .before .before .before .before .loop .first) (l .result)
-    (l .ensures) (c .past-held .result) (c .past-held .ensures) (omega arith)
+    let found = c .before .before .before in
+    let p = found .before .before .loop in
+    let a = found .before .before .before .before .args in
+    let l = found .last-of in
+    apart-by (isHeld (a .held) (a .next)) (a .next) (a .top - a .next) (p .first) (l .result) (l .ensures) (c .past-held .result)
+    (c .past-held .ensures) (omega arith)
 
 add-past-held : tie.Need-add-past-held Inv-loop μ-loop
 add-past-held c =
@@ -86,10 +94,11 @@ loop-less c =
 
 loop-again : tie.Need-loop-again Inv-loop μ-loop
 loop-again c =
-    let a = c .before .before .before .before .before .before .before .args in
+    let found = c .before .before .before in
+    let p = found .before .before .loop in
+    let a = found .before .before .before .before .args in
     let so = isHeld (a .held) (a .next) in
-    let p = c .before .before .before .before .before .loop in
-    let l = c .before .before .before .last-of in
+    let l = found .last-of in
     let g = c .past-held in
     let e = on-to so (a .next) (a .top - a .next) (p .first) (l .result) (l .ensures) (g .result) (g .ensures) in (
       rw (p .inv .0, e) (at-later ((a .next + p .first) to (a .next + l .result)) (rest so (a .next) (a .top - a .next) (g .result))

@@ -1,3 +1,5 @@
+-- `count` meets its contract: the ranges counted so far, with those from the next number on, are all of them.
+-- Assumes nothing.
 use Prim.Native.Nat.{_+_, _-_, _*_, _≤_}
 use mathlib.Core.Path.{_≡_, ap}
 use mathlib.Core.Bool.{false}
@@ -18,6 +20,8 @@ Inv-loop held next top reach ranges₀ first₀ ranges first =
 abbrev μ-loop : tie.MeasureT-loop
 μ-loop held next top reach ranges₀ first₀ ranges first = 32 - first
 
+-- Each turn counts one range; the ranges from the next missing number on are still to be counted. A range takes two numbers at least, its
+-- first and a held one behind it, so that their count fits.
 returns : tie.Need-returns Inv-loop μ-loop
 returns c =
     let a = c .before .args in
@@ -29,8 +33,7 @@ loop-holds c =
       omega (arith, ap length (from-next (a .held) (a .next) (a .top) (c .if1 .left))),
       omega arith,
       omega arith,
-      none-before (a .held)
-          (a .next) (a .next + 0) (omega arith),
+      none-before (a .held) (a .next) (a .next + 0) (omega arith),
     )
 
 add-ranges : tie.Need-add-ranges Inv-loop μ-loop
@@ -44,12 +47,8 @@ returns-2 c =
     let a = c .before .before .before .before .before .args in
     let p = c .before .before .before .loop in
     let l = c .before .last-of in
-    omega (
-      arith,
-      p .inv .0,
-      ap length (the-last (isHeld (a .held) (a .next)) (a .next) (a .top - a .next) (p .first) (l .result)
-          (l .ensures) (c .if2 .taken)),
-    )
+    let e = the-last (isHeld (a .held) (a .next)) (a .next) (a .top - a .next) (p .first) (l .result) (l .ensures) (c .if2 .taken) in
+    omega (arith, p .inv .0, ap length e)
 
 -- a range that ends before the top ends before a held message, and the next one begins behind that
 near : (c : tie.Else2 Inv-loop μ-loop) → c .before .last-of .result + 1 ≤ 31
@@ -60,10 +59,12 @@ near c =
 
 onward : (c : tie.After-past-held Inv-loop μ-loop) → c .before .before .last-of .result + 2 ≤ c .past-held .result
 onward c =
-    let a = c .before .before .before .before .before .before .args in
-    let l = c .before .before .last-of in
-    apart-by (isHeld (a .held) (a .next)) (a .next) (a .top - a .next) (c .before .before .before .before .loop .first) (l .result)
-    (l .ensures) (c .past-held .result) (c .past-held .ensures) (omega arith)
+    let found = c .before .before in
+    let p = found .before .before .loop in
+    let a = found .before .before .before .before .args in
+    let l = found .last-of in
+    apart-by (isHeld (a .held) (a .next)) (a .next) (a .top - a .next) (p .first) (l .result) (l .ensures) (c .past-held .result)
+    (c .past-held .ensures) (omega arith)
 
 add-past-held : tie.Need-add-past-held Inv-loop μ-loop
 add-past-held c =
@@ -82,9 +83,10 @@ loop-less c =
 
 loop-again : tie.Need-loop-again Inv-loop μ-loop
 loop-again c =
-    let a = c .before .before .before .before .before .before .args in
-    let p = c .before .before .before .before .loop in
-    let l = c .before .before .last-of in
+    let found = c .before .before in
+    let p = found .before .before .loop in
+    let a = found .before .before .before .before .args in
+    let l = found .last-of in
     let g = c .past-held in
     let e = on-to (isHeld (a .held) (a .next)) (a .next) (a .top - a .next) (p .first) (l .result) (l .ensures) (g .result) (g .ensures) in
     let n = onward c in
@@ -94,12 +96,8 @@ returns-3 : tie.Need-returns-3 Inv-loop μ-loop
 returns-3 c =
     let a = c .before .before .before .args in
     let p = c .before .loop in
-    omega (
-      arith,
-      p .inv .0,
-      ap length (none-left (isHeld (a .held) (a .next)) (a .next) (a .top - a .next) (p .first)
-          (c .loop-test .left)),
-    )
+    let e = none-left (isHeld (a .held) (a .next)) (a .next) (a .top - a .next) (p .first) (c .loop-test .left) in
+    omega (arith, p .inv .0, ap length e)
 
 pub count-spec : {M : Type 1} → statement M
 count-spec =

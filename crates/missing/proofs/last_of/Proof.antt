@@ -1,3 +1,5 @@
+-- `last_of` meets its contract: from the first number of a range to where the search stands nothing is held.
+-- Assumes nothing.
 use Prim.Native.Nat.{_+_, _-_, _≤_}
 use mathlib.Core.Path.{sym, _∙_}
 use mathlib.Core.Bool.{false}
@@ -10,12 +12,13 @@ use Rattle.missing.proofs.last_of.Statement.{statement}
 use Rattle.missing.proofs.last_of.Tie as tie
 
 abbrev Inv-loop : tie.InvT-loop
-Inv-loop held next reach first last₀ last = (first ≤ last) × (last ≤ reach) × Runs (isHeld held next) false (next + first)
-    (next + (last + 1))
+Inv-loop held next reach first last₀ last =
+    (first ≤ last) × (last ≤ reach) × Runs (isHeld held next) false (next + first) (next + (last + 1))
 
 abbrev μ-loop : tie.MeasureT-loop
 μ-loop held next reach first last₀ last = 31 - last
 
+-- So far all from the first number on are missing. Past N+31 nothing is held, so that from there on all are.
 returns : tie.Need-returns Inv-loop μ-loop
 returns c =
     let a = c .before .args in
@@ -55,8 +58,9 @@ loop-less c = search needs
 
 loop-again : tie.Need-loop-again Inv-loop μ-loop
 loop-again c =
-    let a = c .before .before .before .before .before .before .args in
-    let l = c .before .before .before .before .loop in (
+    let at = c .before .before .before .before in
+    let a = at .before .before .args in
+    let l = at .loop in (
       omega arith,
       omega arith,
       more-run (isHeld (a .held) (a .next)) (a .next + a .first) (a .next) (l .last + 1) false (l .inv .2)
@@ -67,13 +71,13 @@ returns-4 : tie.Need-returns-4 Inv-loop μ-loop
 returns-4 c =
     let a = c .before .before .before .args in
     let l = c .before .loop in
-    let far : Runs (isHeld (a .held) (a .next)) false (a .next + (l .last + 1)) (a .next + (a .reach + 1)) = λ k f g. none-beyond (a .held)
-    (a .next) k (omega arith) in
+    let so = isHeld (a .held) (a .next) in
+    let far : Runs so false (a .next + (l .last + 1)) (a .next + (a .reach + 1)) = λ k f g.
+    none-beyond (a .held) (a .next) k (omega arith) in
     record {
       after = omega arith;
       within = omega arith;
-      gap = join-runs (isHeld (a .held) (a .next)) (a .next + a .first) (a .next + (l .last + 1)) (a .next + (a .reach + 1)) false
-          (l .inv .2) far;
+      gap = join-runs so (a .next + a .first) (a .next + (l .last + 1)) (a .next + (a .reach + 1)) false (l .inv .2) far;
       ends = λ l. absurd (omega arith);
     }
 

@@ -1,3 +1,5 @@
+-- `past_held` meets its contract: from where the search began to where it stands all is held.
+-- Assumes nothing.
 use Prim.Native.Nat.{_+_, _-_, _≤_}
 use mathlib.Core.Path.{sym, _∙_}
 use mathlib.Core.Bool.{true}

@@ -18,9 +18,10 @@ same-length c = search needs
 
 returns : tie.Need-returns
 returns c =
-    let a = c .before .before .before .before .before .before .before .before .before .args in
-    pair-puts 2 8 (now (a .d)) _ _ (a .at) (a .n .0) (a .n .1) (c .before .before .before .before .before .before .put2 .ensures)
-    (c .before .before .put8 .ensures)
+    let second = c .before .before in
+    let first = second .before .before .before .before in
+    let a = first .before .before .before .args in
+    pair-puts 2 8 (now (a .d)) _ _ (a .at) (a .n .0) (a .n .1) (first .put2 .ensures) (second .put8 .ensures)
 
 pub put-name-spec : {M : Type 1} → statement M
 put-name-spec = tie.close (tie.spec put2-requires add-put8 put8-requires same-length returns)

@@ -18,9 +18,10 @@ same-length c = search needs
 
 returns : tie.Need-returns
 returns c =
-    let a = c .before .before .before .before .before .before .before .before .before .args in
-    pair-puts 2 4 (now (a .d)) _ _ (a .at) (a .u .0) (a .u .1) (c .before .before .before .before .before .before .put2 .ensures)
-    (c .before .before .put4 .ensures)
+    let second = c .before .before in
+    let first = second .before .before .before .before in
+    let a = first .before .before .before .args in
+    pair-puts 2 4 (now (a .d)) _ _ (a .at) (a .u .0) (a .u .1) (first .put2 .ensures) (second .put4 .ensures)
 
 pub put-user-spec : {M : Type 1} → statement M
 put-user-spec = tie.close (tie.spec put2-requires add-put4 put4-requires same-length returns)

@@ -1,3 +1,5 @@
+-- `memx_report` meets its contract: what the reader answers decides, and then whose session it is.
+-- Assumes nothing.
 use Prim.Native.Nat.{ℕ, _+_}
 use mathlib.Core.Path.{_≡_, refl}
 use mathlib.Core.List.{List}
@@ -23,20 +25,26 @@ abbrev reportedAs : ℕ → Memx → Reported
 reportedAs own (reading.Refused n) = reported.Refused n
 reportedAs own (reading.Heartbeat session highest extra) = if session .0 is own then reported.News highest else reported.Refused 11
 reportedAs own (reading.Shutdown session highest extra) = if session .0 is own then reported.End highest else reported.Refused 11
-reportedAs own (reading.Messages session first count extra) = if session .0 is own then reported.Messages first count
-    (20 + extra) else reported.Refused 11
+reportedAs own (reading.Messages session first count extra) =
+    if session .0 is own then reported.Messages first count (20 + extra) else reported.Refused 11
 
 if-owned : (own session place : ℕ) (report : Report)
     → reportedOf place (owned own session report) ≡ (if session is own then reportedOf place (taken report) else reported.Refused 11)
 if-owned own session place report = by-test (session is own) (λ e. rw e) (λ e. rw e)
 
-by-answer : (own : ℕ) (d : List ℕ) (v : Verdict memx.Packet) → read d ≡ v → reportedOf (blocksAt d) (v into ofMemx own) ≡ reportedAs own
-    (memxOf v)
+by-answer : (own : ℕ) (d : List ℕ) (v : Verdict memx.Packet) → read d ≡ v
+    → reportedOf (blocksAt d) (v into ofMemx own) ≡ reportedAs own (memxOf v)
 by-answer own d (refused n) e = refl
 by-answer own d (taken (memx.heartbeat session highest extra)) e = if-owned own session (blocksAt d) (news highest)
 by-answer own d (taken (memx.shutdown session highest extra)) e = if-owned own session (blocksAt d) (end highest)
 by-answer own d (taken (memx.messages session first extra ms)) e =
     rw (carried-place d session first extra ms e) (if-owned own session (20 + length extra) (messages first ms))
+
+goes-on : (c : tie.After-read) → let a = c .before .before .args in
+    reportedOf (blocksAt (now (a .datagram))) (read (now (a .datagram)) into ofMemx (a .own .0)) ≡ reportedAs (a .own .0) (c .read .result)
+goes-on c =
+    let a = c .before .before .args in
+    rw (by-answer (a .own .0) (now (a .datagram)) _ refl, ← c .read .ensures)
 
 read-requires : tie.Need-read-requires
 read-requires c κs = search needs
@@ -69,36 +77,16 @@ owned-requires-3 : tie.Need-owned-requires-3
 owned-requires-3 c κs = search needs
 
 returns : tie.Need-returns
-returns c = rw (
-  by-answer (c .before .before .before .before .before .args .own .0)
-      (now (c .before .before .before .before .before .args .datagram)) _ refl,
-  ← c .before .before .before .read .ensures,
-  c .before .packet .given .1,
-)
+returns c = rw (goes-on (c .before .before .before), c .before .packet .given .1)
 
 returns-2 : tie.Need-returns-2
-returns-2 c = rw (
-  by-answer (c .before .before .before .before .before .before .args .own .0)
-      (now (c .before .before .before .before .before .before .args .datagram)) _ refl,
-  ← c .before .before .before .before .read .ensures,
-  c .before .before .packet2 .given .1,
-) (c .owned .ensures)
+returns-2 c = rw (goes-on (c .before .before .before .before), c .before .before .packet2 .given .1) (c .owned .ensures)
 
 returns-3 : tie.Need-returns-3
-returns-3 c = rw (
-  by-answer (c .before .before .before .before .before .before .args .own .0)
-      (now (c .before .before .before .before .before .before .args .datagram)) _ refl,
-  ← c .before .before .before .before .read .ensures,
-  c .before .before .packet3 .given .1,
-) (c .owned2 .ensures)
+returns-3 c = rw (goes-on (c .before .before .before .before), c .before .before .packet3 .given .1) (c .owned2 .ensures)
 
 returns-4 : tie.Need-returns-4
-returns-4 c = rw (
-  by-answer (c .before .before .before .before .before .before .args .own .0)
-      (now (c .before .before .before .before .before .before .args .datagram)) _ refl,
-  ← c .before .before .before .before .read .ensures,
-  c .before .before .packet4 .given .1,
-) (c .owned3 .ensures)
+returns-4 c = rw (goes-on (c .before .before .before .before), c .before .before .packet4 .given .1) (c .owned3 .ensures)
 
 pub memx-report-spec : {M : Type 1} → statement M
 memx-report-spec =

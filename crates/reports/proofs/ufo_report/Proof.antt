@@ -1,3 +1,5 @@
+-- `ufo_report` meets its contract: what the reader answers decides; `A` and `J` are not for the record.
+-- Assumes nothing.
 use mathlib.Core.Path.{_≡_, refl}
 use denote.Ref.{now}
 use borrow.Author.Needs.{needs}
@@ -26,6 +28,10 @@ by-answer (taken (ufo.reject reason)) = refl
 by-answer (taken (ufo.messages first ms)) = refl
 by-answer (taken (ufo.end total)) = refl
 
+goes-on : (c : tie.After-read-down)
+    → reportedOf 7 (ufo.read (now (c .before .before .args .datagram)) into ofUfo) ≡ reportedAs (c .read-down .result)
+goes-on c = rw (by-answer (ufo.read (now (c .before .before .args .datagram))), ← c .read-down .ensures)
+
 read-down-requires : tie.Need-read-down-requires
 read-down-requires c κs = search needs
 
@@ -45,39 +51,19 @@ enum-told-2 : tie.Need-enum-told-2
 enum-told-2 c = search needs
 
 returns : tie.Need-returns
-returns c = rw (
-  by-answer (ufo.read (now (c .before .before .before .before .before .args .datagram))),
-  ← c .before .before .before .read-down .ensures,
-  c .before .packet .given .1,
-)
+returns c = rw (goes-on (c .before .before .before), c .before .packet .given .1)
 
 returns-2 : tie.Need-returns-2
-returns-2 c = rw (
-  by-answer (ufo.read (now (c .before .before .before .before .before .args .datagram))),
-  ← c .before .before .before .read-down .ensures,
-  c .before .packet2 .given .1,
-)
+returns-2 c = rw (goes-on (c .before .before .before), c .before .packet2 .given .1)
 
 returns-3 : tie.Need-returns-3
-returns-3 c = rw (
-  by-answer (ufo.read (now (c .before .before .before .before .before .args .datagram))),
-  ← c .before .before .before .read-down .ensures,
-  c .before .packet3 .given .1,
-)
+returns-3 c = rw (goes-on (c .before .before .before), c .before .packet3 .given .1)
 
 returns-4 : tie.Need-returns-4
-returns-4 c = rw (
-  by-answer (ufo.read (now (c .before .before .before .before .args .datagram))),
-  ← c .before .before .read-down .ensures,
-  c .enum-told .given .1,
-)
+returns-4 c = rw (goes-on (c .before .before), c .enum-told .given .1)
 
 returns-5 : tie.Need-returns-5
-returns-5 c = rw (
-  by-answer (ufo.read (now (c .before .before .before .before .args .datagram))),
-  ← c .before .before .read-down .ensures,
-  c .enum-told2 .given .1,
-)
+returns-5 c = rw (goes-on (c .before .before), c .enum-told2 .given .1)
 
 pub ufo-report-spec : {M : Type 1} → statement M
 ufo-report-spec =

@@ -1,3 +1,5 @@
+-- `write_packet` meets its contract: what the reader says of the packet, then 9, then its bytes.
+-- Assumes nothing.
 use mathlib.Core.Path.{_≡_, refl, sym, _∙_}
 use lib.ListN.{length}
 use lib.Seq.{take-length}
@@ -21,16 +23,16 @@ returns : tie.Need-returns
 returns c =
     let m = c .before .before in
     let a = m .before .before .before .before .args in
-    let e = refused-by (read (now (a .packet))) (c .before .said .given .0 .0) (sym (m .before .read .ensures) ∙ c .before .said .given .1)
-    in
+    let said = c .before .said .given in
+    let e = refused-by (read (now (a .packet))) (said .0 .0) (sym (m .before .read .ensures) ∙ said .1) in
     refuses _ (now (a .out)) _ (rw e)
 
 -- the reader has taken the packet
-room-decides : (c : tie.At-match-keys2) → sent (now (c .before .before .before .before .args .packet))
-    (length (now (c .before .before .before .before .args .out))) ≡ within (length (now (c .before .before .before .before .args .out)))
-    (now (c .before .before .before .before .args .packet))
-room-decides c = taken-by (read (now (c .before .before .before .before .args .packet))) (c .before .read .result) _ _
-    (c .before .read .ensures) (c .match .keys2)
+room-decides : (c : tie.At-match-keys2) → let a = c .before .before .before .before .args in
+    sent (now (a .packet)) (length (now (a .out))) ≡ within (length (now (a .out))) (now (a .packet))
+room-decides c =
+    let r = c .before in
+    taken-by (read (now (r .before .before .before .args .packet))) (r .read .result) _ _ (r .read .ensures) (c .match .keys2)
 
 returns-2 : tie.Need-returns-2
 returns-2 c =

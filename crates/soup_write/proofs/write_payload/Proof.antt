@@ -1,3 +1,5 @@
+-- `write_payload` asks what the reader would of a line with this payload, length before linefeeds; what it stores is that line.
+-- Assumes nothing.
 use Prim.Native.Nat.{_+_}
 use mathlib.Core.Path.{_≡_, _∙_}
 use native.Mathlib.Omega.{arith}
@@ -33,10 +35,9 @@ returns-2 c =
     ∙ rw (← b .is-unbroken .ensures, not-true (b .is-unbroken .result) (c .if2 .taken)))
 
 -- the payload is lawful
-room-decides : (c : tie.Else2) → sent (line (c .before .before .before .before .before .args .kind)
-    (now (c .before .before .before .before .before .args .payload))) (length (now (c .before .before .before .before .before .args .out)))
-    ≡ within (length (now (c .before .before .before .before .before .args .out)))
-    (line (c .before .before .before .before .before .args .kind) (now (c .before .before .before .before .before .args .payload)))
+room-decides : (c : tie.Else2) → let a = c .before .before .before .before .before .args in
+    let packet = line (a .kind) (now (a .payload)) in
+    sent packet (length (now (a .out))) ≡ within (length (now (a .out))) packet
 room-decides c =
     let b = c .before in
     let s = b .before .before .before .before in
@@ -49,9 +50,10 @@ add-if3 c = search needs
 
 returns-3 : tie.Need-returns-3
 returns-3 c =
-    let a = c .before .before .before .before .before .before .args in
+    let e = c .before in
+    let a = e .before .before .before .before .before .args in
     let l = length-line (a .kind) (now (a .payload)) in
-    lacks-room _ (line (a .kind) (now (a .payload))) (now (a .out)) (room-decides (c .before)) (omega (arith, c .if3 .taken))
+    lacks-room _ (line (a .kind) (now (a .payload))) (now (a .out)) (room-decides e) (omega (arith, c .if3 .taken))
 
 slice-write-out : tie.Need-slice-write-out
 slice-write-out c = search needs
@@ -60,10 +62,11 @@ copy-requires : tie.Need-copy-requires
 copy-requires c κs = simp length-set (omega arith)
 
 -- the output keeps its length
-kept : (c : tie.After-copy) → length (c .copy .last .0) ≡ length
-    (now (c .before .before .before .before .before .before .before .before .args .out))
+kept : (c : tie.After-copy) → let e = c .before .before .before in
+    length (c .copy .last .0) ≡ length (now (e .before .before .before .before .before .args .out))
 kept c =
-    let a = c .before .before .before .before .before .before .before .before .args in
+    let e = c .before .before .before in
+    let a = e .before .before .before .before .before .args in
     c .copy .kept .0 ∙ length-set (now (a .out)) 0 (a .kind)
 
 add-out : tie.Need-add-out
@@ -82,10 +85,11 @@ returns-4 : tie.Need-returns-4
 returns-4 c =
     let b = c .before .before in
     let t = b .before .before in
-    let a = t .before .before .before .before .before .before .args in
+    let e = t .before in
+    let a = e .before .before .before .before .before .args in
     let s = now (a .payload) in
     let l = length-line (a .kind) s in
-    has-room _ (line (a .kind) s) (now (a .out)) (room-decides (t .before)) _ (length s + 2) (omega arith) (omega (arith, t .if3 .left))
+    has-room _ (line (a .kind) s) (now (a .out)) (room-decides e) _ (length s + 2) (omega arith) (omega (arith, t .if3 .left))
     (rw (b .copy .ensures, take-length s) (stored-line (now (a .out)) s (a .kind)))
 
 pub write-payload-spec : {M : Type 1} → statement M

@@ -1,3 +1,5 @@
+-- `run` is safe and ends: each turn takes a line, up to the next linefeed, and what was lent keeps its length.
+-- Assumes nothing.
 use Prim.Native.Nat.{_-_, _≤_, _<_}
 use mathlib.Core.Path.{_≡_, refl}
 use native.Mathlib.Omega.{arith}

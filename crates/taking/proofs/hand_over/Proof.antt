@@ -1,6 +1,7 @@
+-- `hand_over` meets its contract: 12; else what is delivered, its own and the released, has room or not, and the record follows.
+-- Assumes nothing.
 use Prim.Native.Nat.{ℕ, _+_, _-_, _^_, _≤_, _<_, max}
-use Rattle.taking.specs.declared.deliver.Delivered.the-variants as gives
-use mathlib.Core.Path.{_≡_, refl, sym, _∙_}
+use mathlib.Core.Path.{_≡_, sym, _∙_}
 use native.Mathlib.Omega.{arith}
 use denote.Ref.{now}
 use lib.ListN.{length}
@@ -9,10 +10,10 @@ use Rattle.record.specs.Record.{highest}
 use Rattle.record.specs.declared.Session.{Session}
 use Rattle.record.specs.declared.Session.the-variants.{Ufo, Memx}
 use Rattle.record.proofs.Hanging.{hanging}
+use Rattle.held.specs.declared.releasing.Released.the-variants as gives
 use Rattle.held.proofs.Hangs.{freed-sound}
-use Rattle.reports.specs.Reports.{blocksFrom}
-use Rattle.taking.specs.Handing.{Handed}
-use Rattle.taking.proofs.HandingOver.{counted, hands-others, room, tells-clash, tells-refusal, tells-blocks, released-few}
+use Rattle.taking.specs.Delivering.{Handed}
+use Rattle.taking.proofs.HandingOver.{hands-others, room, tells-clash, tells, released-few}
 use borrow.Author.Needs.{needs}
 use Rattle.taking.proofs.hand_over.Statement.{statement}
 use Rattle.taking.proofs.hand_over.Tie as tie
@@ -22,39 +23,33 @@ highest-fits : (s : Session) → highest s < 2 ^ 64 - 1
 highest-fits (Ufo name) = omega arith
 highest-fits (Memx id) = omega arith
 
-bytes : (c : tie.After-contradicts) → Bytes (now (c .before .before .before .before .before .args .datagram))
-bytes c i = c .before .before .before .shared-slice-known2 .given i .fits
+-- What deliver answers is settled by `room`, so that either way out is `tells`; and few are released, so that the number reached fits.
+abbrev start : tie.Else1 → tie.Start
+start c = c .before .before .before .before .before .before
 
-many : (c : tie.After-contradicts) → let a = c .before .before .before .before .before .args in
-    length (blocksFrom (now (a .datagram)) (a .place) (a .count)) ≡ a .count
-many c =
-    let a = c .before .before .before .before .before .args in
-    counted (now (a .datagram)) (a .place) (a .first) (a .count) (bytes c) (c .before .before .before .before .before .pre .2)
-
--- what was delivered are the blocks of the others, and those that are held behind them
-given-so : (c : tie.After-deliver) → let a =
-    c .before .before .before .before .before .before .before .before .before .before .before .args in
-    Handed (room (a .kept) (now (a .area)) (a .first) (a .count) (blocksFrom (now (a .datagram)) (a .place) (a .count))
-    (many (c .before .before .before .before .before .before)) (now (a .out))) (now (a .out)) (c .deliver .result)
-    (c .deliver .last .1 .1 .1 .1 .1 .1 .0)
+given-so : (c : tie.After-deliver) → let s = start (c .before .before .before .before .before) in
+    let a = s .args in
+    Handed (room (a .kept) (now (a .area)) (now (a .out)) (now (a .datagram)) (a .place) (a .first) (a .count) (s .pre .2))
+    (now (a .out)) (c .deliver .result) (c .deliver .last .1 .1 .1 .1 .1 .1 .0)
 given-so c =
     let g = c .before .before .before .before .before .before in
-    let a = g .before .before .before .before .before .args in
-    let p = g .before .before .before .before .before .pre in
-    let h = rw (c .before .before .before .free-from .ensures) at (c .deliver .ensures) in
-    rw (hands-others (now (a .datagram)) (a .place) (a .first) (a .count) (bytes g) (p .2) (a .kept .next .0 - a .first) _ (now (a .area))
-    (a .first + a .count) (length (now (a .out))) (omega arith)
-    (freed-sound (a .kept .held) (now (a .area)) (a .first + a .count - a .kept .next .0) (a .kept .next .0) (p .1))) at h
+    let s = g .before .before .before .before .before in
+    let a = s .args in
+    let bytes : Bytes (now (a .datagram)) = λ i. g .before .before .before .shared-slice-known2 .given i .fits in
+    let sound = freed-sound (a .kept .held) (now (a .area)) (a .first + a .count - a .kept .next .0) (a .kept .next .0) (s .pre .1) in
+    rw (hands-others (now (a .datagram)) bytes (a .place) (a .first) (a .count) (s .pre .2) (a .kept .next .0 - a .first) _ (now (a .area))
+    (a .first + a .count) (length (now (a .out))) (omega arith) sound) at
+    (rw (c .before .before .before .free-from .ensures) at (c .deliver .ensures))
 
-reaches : (c : tie.After-deliver) (n k : ℕ) → c .deliver .result ≡ gives.Bytes n k
-    → let a = c .before .before .before .before .before .before .before .before .before .before .before .args in (k ≤ 31)
-    × (a .first + a .count + k ≤ max (a .kept .top .0) (a .first + a .count - 1) + 1)
-reaches c n k e =
-    let g = c .before .before .before .before .before .before in
-    let a = g .before .before .before .before .before .args in
-    let p = g .before .before .before .before .before .pre in
-    released-few (a .kept) (now (a .area)) (a .first) (a .count) (blocksFrom (now (a .datagram)) (a .place) (a .count)) (many g)
-    (now (a .out)) (p .0) (p .3) (p .4) n k _ (rw e at (given-so c))
+reaches : (c : tie.After-deliver) (k n : ℕ) → c .deliver .result ≡ gives.Messages k n
+    → let a = start (c .before .before .before .before .before) .args in
+    (k ≤ 31) × (a .first + a .count + k ≤ max (a .kept .top .0) (a .first + a .count - 1) + 1)
+reaches c k n e =
+    let s = start (c .before .before .before .before .before) in
+    let a = s .args in
+    let p = s .pre in
+    released-few (a .kept) (now (a .area)) (now (a .out)) (now (a .datagram)) (a .place) (a .first) (a .count) (p .2) (p .0) (p .3) (p .4)
+    k n _ (rw e at (given-so c))
 
 add-past : tie.Need-add-past
 add-past c = search needs
@@ -68,9 +63,10 @@ contradicts-requires c κs = search needs
 returns : tie.Need-returns
 returns c =
     let g = c .before in
-    let a = g .before .before .before .before .before .args in
-    tells-clash (a .kept) (now (a .area)) (a .first) (a .count) (blocksFrom (now (a .datagram)) (a .place) (a .count)) (many g)
-    (now (a .out)) (sym (g .contradicts .ensures) ∙ c .if1 .taken)
+    let s = g .before .before .before .before .before in
+    let a = s .args in
+    tells-clash (a .kept) (now (a .area)) (now (a .out)) (now (a .datagram)) (a .place) (a .first) (a .count) (s .pre .2)
+    (sym (g .contradicts .ensures) ∙ c .if1 .taken)
 
 sub-free-from : tie.Need-sub-free-from
 sub-free-from c = search needs
@@ -96,11 +92,11 @@ cast-reached c = search needs
 add-reached : tie.Need-add-reached
 add-reached c =
     let d = c .before .before .before .before .before in
-    let a = d .before .before .before .before .before .before .before .before .before .before .before .args in
-    let p = d .before .before .before .before .before .before .before .before .before .before .before .pre in
+    let s = start (d .before .before .before .before .before) in
+    let p = s .pre in
     let f = reaches d _ _ (c .before .given2 .given .1) in
-    let t = hanging (a .kept) (p .0) .bound in
-    let u = highest-fits (a .kept .session) in
+    let t = hanging (s .args .kept) (p .0) .bound in
+    let u = highest-fits (s .args .kept .session) in
     let w = p .2 .bound in
     omega (arith, f .1)
 
@@ -109,10 +105,11 @@ sub-messages c = search needs
 
 cast-messages : tie.Need-cast-messages
 cast-messages c =
-    let d = c .before .before .before .before .before .before in
-    let p = d .before .before .before .before .before .before .before .before .before .before .before .pre in
-    let f = reaches d _ _ (c .before .before .given2 .given .1) in
-    omega (arith, f .0, p .3, d .before .before .before .before .before .before .before .before .before .before .before .fits .count .fits)
+    let told = c .before .before in
+    let d = told .before .before .before .before in
+    let s = start (d .before .before .before .before .before) in
+    let f = reaches d _ _ (told .given2 .given .1) in
+    omega (arith, f .0, s .pre .3, s .fits .count .fits)
 
 cast-free-from : tie.Need-cast-free-from
 cast-free-from c = search needs
@@ -132,26 +129,25 @@ same-length c = search needs
 returns-2 : tie.Need-returns-2
 returns-2 c =
     let d = c .before .before .before .before .before in
-    let g = d .before .before .before .before .before .before in
-    let a = g .before .before .before .before .before .args in
-    let p = g .before .before .before .before .before .pre in
-    tells-refusal (a .kept) (now (a .area)) (a .first) (a .count) (blocksFrom (now (a .datagram)) (a .place) (a .count)) (many g)
-    (now (a .out)) (p .3) (p .4) (sym (g .contradicts .ensures) ∙ d .before .before .before .before .before .if1 .left) _ _
-    (rw (c .before .given .given .1) at (given-so d))
+    let agrees = d .before .before .before .before .before in
+    let a = start agrees .args in
+    let p = start agrees .pre in
+    tells (a .kept) (now (a .area)) (now (a .out)) (now (a .datagram)) (a .place) (a .first) (a .count) (p .2) (p .3) (p .4)
+    (sym (agrees .before .contradicts .ensures) ∙ agrees .if1 .left) _ _ (rw (c .before .given .given .1) at (given-so d))
 
 same-length-2 : tie.Need-same-length-2
 same-length-2 c = search needs
 
 returns-3 : tie.Need-returns-3
 returns-3 c =
-    let d = c .before .before .before .before .before .before .before .before in
-    let g = d .before .before .before .before .before .before in
-    let a = g .before .before .before .before .before .args in
-    let p = g .before .before .before .before .before .pre in
-    tells-blocks (a .kept) (now (a .area)) (a .first) (a .count) (blocksFrom (now (a .datagram)) (a .place) (a .count)) (many g)
-    (now (a .out)) (p .3) (p .4) (sym (g .contradicts .ensures) ∙ d .before .before .before .before .before .if1 .left) _ _ _ _ _ refl
-    (c .tell .ensures ∙ rw (c .before .free-from2 .ensures, d .before .before .before .free-from .ensures))
-    (rw (c .before .before .before .before .given2 .given .1) at (given-so d))
+    let told = c .before .before .before in
+    let d = told .before .before .before .before .before in
+    let agrees = d .before .before .before .before .before in
+    let a = start agrees .args in
+    let p = start agrees .pre in
+    rw (c .tell .ensures, c .before .free-from2 .ensures, d .before .before .before .free-from .ensures)
+    (tells (a .kept) (now (a .area)) (now (a .out)) (now (a .datagram)) (a .place) (a .first) (a .count) (p .2) (p .3) (p .4)
+    (sym (agrees .before .contradicts .ensures) ∙ agrees .if1 .left) _ _ (rw (told .before .given2 .given .1) at (given-so d)))
 
 pub hand-over-spec : {M : Type 1} → statement M
 hand-over-spec =

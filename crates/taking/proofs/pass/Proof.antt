@@ -1,5 +1,5 @@
 use Rattle.blocks.specs.Blocks.{frames}
-use Rattle.taking.specs.Handing.{passing}
+use Rattle.taking.specs.Ways.{passing}
 use borrow.Author.Needs.{needs}
 use Rattle.taking.proofs.pass.Statement.{statement}
 use Rattle.taking.proofs.pass.Tie as tie

@@ -13,19 +13,22 @@ use borrow.Author.Needs.{needs}
 use Rattle.taking.proofs.take.Statement.{statement}
 use Rattle.taking.proofs.take.Tie as tie
 
--- once it is known what the datagram reports
-hang : (c : tie.After-report-of) → let a =
-    c .before .before .before .before .before .before .before .before .before .before .before .args in (hangs (a .kept) ≡ true)
-    × (sound (a .kept .held) (now (a .area)) ≡ true)
-hang c =
-    let a = c .before .before .before .before .before .before .before .before .before .before .before .args in
-    both-hang (a .kept) (now (a .area)) (now (a .datagram)) (now (a .out))
-    (held (c .before .before .before .before .before .before .before .is-well-kept .ensures)
-    (c .before .before .before .before .before .before .if1 .left)) (held (c .before .before .is-whole .ensures) (c .before .if2 .left))
+-- Each way out is a law of Answering. Once it is known what the datagram reports, record and area hang together:
+abbrev well : tie.After-report-of → tie.Else1
+well c = c .before .before .before .before .before .before
 
-bytes : (c : tie.After-report-of) → Bytes
-    (now (c .before .before .before .before .before .before .before .before .before .before .before .args .datagram))
-bytes c i = c .before .before .before .before .before .before .before .before .before .shared-slice-known .given i .fits
+abbrev start : tie.Else1 → tie.Start
+start c = c .before .before .before .before .before
+
+hang : (c : tie.After-report-of) → let a = start (well c) .args in
+    (hangs (a .kept) ≡ true) × (sound (a .kept .held) (now (a .area)) ≡ true)
+hang c =
+    let a = start (well c) .args in
+    both-hang (a .kept) (now (a .area)) (now (a .datagram)) (now (a .out))
+    (held (well c .before .is-well-kept .ensures) (well c .if1 .left)) (held (c .before .before .is-whole .ensures) (c .before .if2 .left))
+
+bytes : (c : tie.After-report-of) → Bytes (now (start (well c) .args .datagram))
+bytes c i = well c .before .before .before .shared-slice-known .given i .fits
 
 is-well-kept-requires : tie.Need-is-well-kept-requires
 is-well-kept-requires c κs = search needs
@@ -43,7 +46,7 @@ same-length c = search needs
 
 returns-2 : tie.Need-returns-2
 returns-2 c =
-    let a = c .before .before .before .before .before .before .before .before .before .before .args in
+    let a = start (c .before .before .before .before .before) .args in
     answers-unwhole (a .kept) (now (a .area)) (now (a .datagram)) (now (a .out)) (failed (c .before .is-whole .ensures) (c .if2 .taken))
 
 report-of-requires : tie.Need-report-of-requires
@@ -58,7 +61,7 @@ enum-known-reported-2 c = search needs
 take-messages-requires : tie.Need-take-messages-requires
 take-messages-requires c κs =
     let h = c .before .before .before .before .before in
-    let a = h .before .before .before .before .before .before .before .before .before .before .before .args in
+    let a = start (well h) .args in
     let m = reported-so _ _ _ (sym (c .before .before .before .reported2 .given .1) ∙ h .report-of .ensures) in
     (hang h .0, hang h .1, fills-so (a .kept) (now (a .area)) (now (a .datagram)) (now (a .out)) (hang h .0) (hang h .1) (bytes h) _ _ _ m)
 
@@ -80,7 +83,7 @@ same-length-2 c = search needs
 returns-3 : tie.Need-returns-3
 returns-3 c =
     let h = c .before .before .before in
-    let a = h .before .before .before .before .before .before .before .before .before .before .before .args in
+    let a = start (well h) .args in
     answers-refusal (a .kept) (now (a .area)) (now (a .datagram)) (now (a .out)) (hang h .0) (hang h .1) _
     (reported-so _ _ _ (sym (c .before .reported .given .1) ∙ h .report-of .ensures))
 
@@ -92,12 +95,13 @@ same-length-4 c = search needs
 
 returns-4 : tie.Need-returns-4
 returns-4 c =
-    let h = c .before .before .before .before .before .before .before .before .before .before in
-    let a = h .before .before .before .before .before .before .before .before .before .before .before .args in
-    let m = reported-so _ _ _ (sym (c .before .before .before .before .before .before .before .before .reported2 .given .1)
-    ∙ h .report-of .ensures) in
+    let took = c .before .before .before .before in
+    let told = took .before .before .before .before in
+    let h = told .before .before in
+    let a = start (well h) .args in
+    let m = reported-so _ _ _ (sym (told .reported2 .given .1) ∙ h .report-of .ensures) in
     answers-messages (a .kept) (now (a .area)) (now (a .datagram)) (now (a .out)) (hang h .0) (hang h .1) (bytes h) _ _ _ m _ _ _
-    (c .before .before .before .before .take-messages .ensures)
+    (took .take-messages .ensures)
 
 same-length-5 : tie.Need-same-length-5
 same-length-5 c = search needs
@@ -105,7 +109,7 @@ same-length-5 c = search needs
 returns-5 : tie.Need-returns-5
 returns-5 c =
     let h = c .before .before .before .before in
-    let a = h .before .before .before .before .before .before .before .before .before .before .before .args in
+    let a = start (well h) .args in
     let m = reported-so _ _ _ (sym (c .before .before .reported3 .given .1) ∙ h .report-of .ensures) in
     answers-none (a .kept) (now (a .area)) (now (a .datagram)) (now (a .out)) (hang h .0) (hang h .1) (news _) m refl (λ k. refl) _
     (c .pass .ensures)
@@ -116,7 +120,7 @@ same-length-6 c = search needs
 returns-6 : tie.Need-returns-6
 returns-6 c =
     let h = c .before .before .before .before in
-    let a = h .before .before .before .before .before .before .before .before .before .before .before .args in
+    let a = start (well h) .args in
     let m = reported-so _ _ _ (sym (c .before .before .reported4 .given .1) ∙ h .report-of .ensures) in
     answers-none (a .kept) (now (a .area)) (now (a .datagram)) (now (a .out)) (hang h .0) (hang h .1) (end _) m refl (λ k. refl) _
     (c .pass2 .ensures)

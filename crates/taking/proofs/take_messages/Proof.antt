@@ -1,13 +1,7 @@
-use mathlib.Core.List.{[]}
-use mathlib.Core.Path.{_≡_, _∙_}
-use native.Mathlib.Omega.{arith}
+-- `take_messages` meets its contract: with nothing held and in turn there is a shorter way; all else goes the long one.
+-- Assumes nothing.
 use denote.Ref.{now}
-use Rattle.wire.specs.Fields.{Bytes}
-use Rattle.reports.specs.Reports.{messages, blocksFrom}
-use Rattle.taking.specs.Taking.{own}
-use Rattle.taking.proofs.Reports.{late}
-use Rattle.taking.proofs.Answering.{whatever}
-use Rattle.taking.proofs.HandingOver.{counted, tells-pass}
+use Rattle.taking.proofs.HandingOver.{tells-pass}
 use borrow.Author.Needs.{needs}
 use Rattle.taking.proofs.take_messages.Statement.{statement}
 use Rattle.taking.proofs.take_messages.Tie as tie
@@ -35,18 +29,12 @@ pass-requires c κs = search needs
 
 returns-2 : tie.Need-returns-2
 returns-2 c =
-    let a = c .before .before .before .before .before .before .before .before .before .before .before .args in
-    let p = c .before .before .before .before .before .before .before .before .before .before .before .pre in
-    let b : Bytes (now (a .datagram)) = λ i.
-    c .before .before .before .before .before .before .before .before .before .shared-slice-known .given i .fits in
-    let l = counted (now (a .datagram)) (a .place) (a .first) (a .count) b (p .2) in
-    let first-one = p .2 .some in
-    let h = c .before .if3 .left in
-    let none : own (a .kept .next .0) (messages (a .first) (blocksFrom (now (a .datagram)) (a .place) (a .count))) ≡ [] =
-    late (a .kept .next .0) (a .first) (blocksFrom (now (a .datagram)) (a .place) (a .count)) (omega arith) (rw l h) in
-    tells-pass (a .kept) (now (a .area)) (a .first) (a .count) (blocksFrom (now (a .datagram)) (a .place) (a .count)) l (now (a .out))
-    (p .0) (c .before .before .before .if2 .taken) none _
-    (c .pass .ensures ∙ whatever (a .kept) (now (a .area)) (now (a .datagram)) (now (a .out)) _ _)
+    let in-turn = c .before .before .before in
+    let next = in-turn .before .before .before .before in
+    let s = next .before .before .before .before in
+    let a = s .args in
+    tells-pass (a .kept) (now (a .area)) (now (a .out)) (now (a .datagram)) (a .place) (a .first) (a .count) (s .pre .2) (s .pre .0)
+    (c .before .if3 .left) _ (c .pass .ensures)
 
 take-held-requires : tie.Need-take-held-requires
 take-held-requires c κs = search needs

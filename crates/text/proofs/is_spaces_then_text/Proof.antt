@@ -1,3 +1,5 @@
+-- `is_spaces_then_text` meets its contract: spaces are passed over, and then text must follow to the end.
+-- Assumes nothing.
 use Prim.Native.Nat.{_-_}
 use mathlib.Core.Path.{_≡_, sym, _∙_}
 use denote.Ref.{now}

@@ -1,3 +1,5 @@
+-- `is_text_then_spaces` meets its contract: text is passed over, and then spaces must follow to the end.
+-- Assumes nothing.
 use Prim.Native.Nat.{_-_}
 use mathlib.Core.Path.{_≡_, sym, _∙_}
 use denote.Ref.{now}

@@ -17,12 +17,18 @@ use borrow.Author.Needs.{needs}
 use Rattle.ufo_compose.proofs.add_message.Statement.{statement}
 use Rattle.ufo_compose.proofs.add_message.Tie as tie
 
+-- What stands in the output is read first (`begun`). Behind it the reply is the message's own, in the part of the output that is left
+-- (`behind`): what the writer did there, given back, settles the whole.
+
+-- where the call began, told from where the packet so far is known to be taken
+abbrev began : tie.After-enum-told → tie.Start
+began c = c .before .before .before .before .before .before .before
+
 -- the output's first bytes are taken so far
-begun : (c : tie.After-enum-told) → let a = c .before .before .before .before .before .before .before .args in
-    Begun (now (a .out)) (a .used)
+begun : (c : tie.After-enum-told) → let a = began c .args in Begun (now (a .out)) (a .used)
 begun c =
     let i = c .before .before .before .before in
-    let a = i .before .before .before .args in
+    let a = began c .args in
     let g = c .enum-told .given in
     record {
       inside = i .if1 .left;
@@ -31,11 +37,12 @@ begun c =
     }
 
 -- and the message goes behind them
-behind : (c : tie.Else2) → let a = c .before .before .before .before .before .before .before .before .before .args in
-    let m = messageOf (a .message) (now (a .«data»)) in addReply m (now (a .out)) (a .used) ≡ reply m
-    (length (midOf (a .used) (length (now (a .out)) - a .used) (now (a .out)))) into (λ b. taken (take (a .used) (now (a .out)) ++ b))
+behind : (c : tie.Else2) → let a = began (c .before .before) .args in
+    let m = messageOf (a .message) (now (a .«data»)) in
+    let out = now (a .out) in
+    addReply m out (a .used) ≡ reply m (length (midOf (a .used) (length out - a .used) out)) into (λ b. taken (take (a .used) out ++ b))
 behind c =
-    let a = c .before .before .before .before .before .before .before .before .before .args in
+    let a = began (c .before .before) .args in
     let out = now (a .out) in
     rw (mid-len (a .used) (length out) out (omega arith))
     (add-behind out (a .used) (begun (c .before .before)) (messageOf (a .message) (now (a .«data»)))
@@ -64,7 +71,7 @@ enum-told : tie.Need-enum-told
 enum-told c = search needs
 
 sub-fits : tie.Need-sub-fits
-sub-fits c = let a = c .before .before .before .before .before .before .before .args in begun-short (now (a .out)) (a .used) (begun c)
+sub-fits c = let a = began c .args in begun-short (now (a .out)) (a .used) (begun c)
 
 fits-requires : tie.Need-fits-requires
 fits-requires c κs = search needs
@@ -74,7 +81,7 @@ same-length c = search needs
 
 returns-2 : tie.Need-returns-2
 returns-2 c =
-    let a = c .before .before .before .before .before .before .before .before .before .args in
+    let a = began (c .before .before) .args in
     refuses _ _ 2 (add-over (now (a .out)) (a .used) (begun (c .before .before)) (messageOf (a .message) (now (a .«data»)))
     (failed (c .before .fits2 .ensures) (c .if2 .taken)))
 
@@ -99,7 +106,7 @@ enum-known-n-3 c = search needs
 add-t22 : tie.Need-add-t22
 add-t22 c =
     let w = c .before .before .before .before .before in
-    let s = w .before .before .before .before .before .before .before .before .before .before .before in
+    let s = began (w .before .before .before .before) in
     let l = given-inside (now (s .args .out)) _ (s .args .used) (c .before .n3 .given .0 .0) (omega arith) _ _ (c .before .n3 .given .1)
     (w .write-message .ensures) (omega arith) in
     omega (arith, s .fits)
@@ -109,10 +116,11 @@ same-length-2 c = search needs
 
 returns-3 : tie.Need-returns-3
 returns-3 c =
-    let a = c .before .before .before .before .before .before .before .before .args in
+    let r = c .before .before .before in
+    let a = r .before .before .before .before .before .args in
     let g = c .before .n .given in
     refuses _ _ (g .0 .0) (add-refused (messageOf (a .message) (now (a .«data»))) (now (a .out)) (a .used) (g .0 .0) (omega arith)
-    (was-refused (soFar (take (a .used) (now (a .out)))) (g .0 .0) (sym (c .before .before .before .read-so-far .ensures) ∙ g .1)))
+    (was-refused (soFar (take (a .used) (now (a .out)))) (g .0 .0) (sym (r .read-so-far .ensures) ∙ g .1)))
 
 same-length-3 : tie.Need-same-length-3
 same-length-3 c = search needs
@@ -120,7 +128,7 @@ same-length-3 c = search needs
 returns-4 : tie.Need-returns-4
 returns-4 c =
     let w = c .before .before .before .before .before in
-    let a = w .before .before .before .before .before .before .before .before .before .before .before .args in
+    let a = began (w .before .before .before .before) .args in
     settled-by (sym (behind (w .before .before))) (given-refused (now (a .out)) _ (a .used) (c .before .n2 .given .0 .0) (omega arith) _ _
     (c .before .n2 .given .1) (w .write-message .ensures))
 
@@ -130,7 +138,7 @@ same-length-4 c = search needs
 returns-5 : tie.Need-returns-5
 returns-5 c =
     let w = c .before .before .before .before .before in
-    let a = w .before .before .before .before .before .before .before .before .before .before .before .args in
+    let a = began (w .before .before .before .before) .args in
     settled-by (sym (behind (w .before .before))) (given-written (now (a .out)) _ (a .used) (c .before .n3 .given .0 .0) (omega arith) _ _
     (c .before .n3 .given .1) (w .write-message .ensures))
 

@@ -1,3 +1,5 @@
+-- `fits` meets its contract: the length of each message's block, as a number, is that of the block laid out.
+-- Assumes nothing.
 use Prim.Native.Nat.{ℕ, _+_, _-_}
 use mathlib.Core.List.{List, _∷_}
 use mathlib.Core.Path.{_≡_, sym, _∙_}

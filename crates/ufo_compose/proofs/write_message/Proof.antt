@@ -1,3 +1,5 @@
+-- `write_message` meets its contract: the writer of the message's type answers.
+-- Assumes nothing.
 use borrow.Author.Needs.{needs}
 use Rattle.ufo_compose.proofs.write_message.Statement.{statement}
 use Rattle.ufo_compose.proofs.write_message.Tie as tie

@@ -24,10 +24,11 @@ same-length c = search needs
 
 returns-2 : tie.Need-returns-2
 returns-2 c =
-    let a = c .before .before .before .before .before .before .args in
+    let head = c .before .before in
+    let a = head .before .before .before .before .args in
     let l = length-frame (a .kind ∷ []) in
     has-room _ (frame (a .kind ∷ [])) (now (a .out)) refl _ 3 (sym l) (omega arith)
-    (rw (c .before .before .put-head .ensures) (laid-alone (now (a .out)) (a .kind)))
+    (rw (head .put-head .ensures) (laid-alone (now (a .out)) (a .kind)))
 
 pub write-alone-spec : {M : Type 1} → statement M
 write-alone-spec = tie.close (tie.spec returns put-head-requires same-length returns-2)

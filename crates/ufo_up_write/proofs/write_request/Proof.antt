@@ -1,3 +1,5 @@
+-- `write_request` meets its contract: what the reader would refuse, then 9, then the block.
+-- Assumes nothing.
 use mathlib.Core.Path.{_≡_, refl, _∙_}
 use mathlib.Core.List.{[], _∷_}
 use denote.Ref.{now}
@@ -20,10 +22,10 @@ use Rattle.ufo_up_write.proofs.write_request.Statement.{statement}
 use Rattle.ufo_up_write.proofs.write_request.Tie as tie
 
 -- the reply, by what is left to check
-replies : (c : tie.Start) → let a = c .args in reply (request (a .first .0) (a .count)) (length (now (a .out))) ≡ checked
-    (leftT (a .first .0) (a .count)) (checked ((held (a .first .0) else 7) ∷ [])
-    (within (length (now (a .out))) (frame (writeMessage (request (a .first .0) (a .count))))))
-replies c = let a = c .args in reply-request (a .first .0) (a .count) (length (now (a .out))) (omega arith)
+replies : (s : tie.Start) → let a = s .args in let m = request (a .first .0) (a .count) in let room = length (now (a .out)) in
+    reply m room ≡ checked (leftT (a .first .0) (a .count))
+    (checked ((held (a .first .0) else 7) ∷ []) (within room (frame (writeMessage m))))
+replies s = let a = s .args in reply-request (a .first .0) (a .count) (length (now (a .out))) (omega arith)
 
 returns : tie.Need-returns
 returns c = refuses _ _ 6 (replies (c .before .before) ∙ search tests)
@@ -56,16 +58,14 @@ same-length c = search needs
 returns-5 : tie.Need-returns-5
 unfolding bytesOf
 returns-5 c =
-    let s = c .before .before .before .before .before .before .before .before .before .before .before .before .before .before .before .before .before in
-    let n = s .args .first .0 in
-    let out = now (s .args .out) in
-    writes _ _ (frame (writeMessage (request n (s .args .count)))) _ 9 (replies s ∙ search tests) refl (omega arith)
-    (rw (
-      c .before .before .put2 .ensures,
-      c .before .before .before .before .before .before .put4 .ensures,
-      c .before .before .before .before .before .before .before .before .before .before .put-head .ensures,
-    )
-    (laid-request out n (s .args .count)))
+    let count = c .before .before in
+    let number = count .before .before .before .before in
+    let head = number .before .before .before .before in
+    let last = head .before .before in
+    let s = last .before .before .before .before .before in
+    let a = s .args in
+    writes _ _ (frame (writeMessage (request (a .first .0) (a .count)))) _ 9 (replies s ∙ search tests) refl (omega arith)
+    (rw (count .put2 .ensures, number .put4 .ensures, head .put-head .ensures) (laid-request (now (a .out)) (a .first .0) (a .count)))
 
 pub write-request-spec : {M : Type 1} → statement M
 write-request-spec =

@@ -1,3 +1,5 @@
+-- `write_unsequenced` meets its contract: what the reader would refuse, then 9, then the block.
+-- Assumes nothing.
 use mathlib.Core.Path.{_∙_}
 use mathlib.Core.List.{_∷_}
 use denote.Ref.{now}
@@ -47,15 +49,15 @@ same-length c = search needs
 
 returns-3 : tie.Need-returns-3
 returns-3 c =
-    let a = c .before .before .before .before .before .before .before .before .before .before .before .before .args in
-    let packet = frame (85 ∷ now (a .«data»)) in
-    let l = length-frame (85 ∷ now (a .«data»)) in
-    has-room _ packet (now (a .out)) (reply-unsequenced (now (a .«data»)) (length (now (a .out))) ∙ search tests) _ _ (omega arith)
-    (omega arith) (rw (
-      c .before .before .copy .ensures,
-      c .before .before .before .before .before .before .put-head .ensures,
-      take-length (now (a .«data»)),
-    ) (laid-unsequenced (now (a .out)) (now (a .«data»))))
+    let copied = c .before .before in
+    let head = copied .before .before .before .before in
+    let last = head .before .before in
+    let a = last .before .before .before .before .args in
+    let bytes = now (a .«data») in
+    let out = now (a .out) in
+    let l = length-frame (85 ∷ bytes) in
+    has-room _ (frame (85 ∷ bytes)) out (reply-unsequenced bytes (length out) ∙ search tests) _ _ (omega arith) (omega arith)
+    (rw (copied .copy .ensures, head .put-head .ensures, take-length bytes) (laid-unsequenced out bytes))
 
 pub write-unsequenced-spec : {M : Type 1} → statement M
 write-unsequenced-spec =

@@ -1,3 +1,5 @@
+-- `write_end` meets its contract: what the reader would refuse, then 9, then the packet.
+-- Assumes nothing.
 use Prim.Native.Nat.{_-_, _^_}
 use mathlib.Core.Path.{refl, _∙_}
 use denote.Ref.{now}

@@ -1,3 +1,5 @@
+-- `write_reject` meets its contract: what the reader would refuse, then 9, then the packet.
+-- Assumes nothing.
 use mathlib.Core.Path.{refl}
 use denote.Ref.{now}
 use borrow.Author.Tests.{le-leb, lt-leb}

@@ -1,4 +1,4 @@
--- `blocks::walker::block_at` meets its contract: a walk of its MIR, by hand. The walker that `new` returns is held in a local and passed on
+-- `walker::block_at` meets its contract: a walk of its MIR, by hand. The walker that `new` returns is held in a local and passed on
 -- to `step`. All that the proof knows of the two is that each meets its contract. In a local of a body MIR erases the lifetime of the
 -- walker's type. What the walker owns does not say the lifetime's name, so its machine value has that type too.
 -- Assumes nothing.

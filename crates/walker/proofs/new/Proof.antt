@@ -1,4 +1,4 @@
--- `blocks::walker::new` meets its contract: a walk of its MIR, by hand. A walker is made of the slice and the place, in the result's local.
+-- `walker::new` meets its contract: a walk of its MIR, by hand. A walker is made of the slice and the place, in the result's local.
 -- A `&[u8]` is Copy, so what it owns is had twice: once for the parameter at exit, and once inside the walker.
 -- Assumes nothing.
 use mathlib.Core.Path.{refl}

@@ -1,4 +1,4 @@
--- `blocks::walker::pull` meets its contract: a walk of its MIR, by hand. The walker's borrow is opened; `visit_at` is called on the slice
+-- `walker::pull` meets its contract: a walk of its MIR, by hand. The walker's borrow is opened; `visit_at` is called on the slice
 -- and the place; the place after is stored in the walker's cell; and the borrow is closed at the walker that has moved. All that the proof
 -- knows of `visit_at` is that it meets its contract. Whether a block was found or refused is in the visit, so the walk has no branch.
 -- Assumes nothing.

@@ -1,4 +1,4 @@
--- `blocks::walker::step` meets its contract: a walk of its MIR, by hand. The walker is taken apart, and `next` is called on its slice and
+-- `walker::step` meets its contract: a walk of its MIR, by hand. The walker is taken apart, and `next` is called on its slice and
 -- its place. All that the proof knows of `next` is that it meets its contract. The walker is Copy: it keeps what it owns for the exit, and
 -- lends a copy to the callee beside the lifetime's token, which comes back.
 -- Assumes nothing.

@@ -1,4 +1,4 @@
--- `blocks::walker::visit_at` meets its contract: the arm that was taken says which block was found, and so the place after it.
+-- `walker::visit_at` meets its contract: the arm that was taken says which block was found, and so the place after it.
 -- Assumes nothing.
 use mathlib.Core.Path.{sym, _∙_}
 use borrow.Author.Needs.{needs}

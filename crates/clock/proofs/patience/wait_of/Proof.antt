@@ -1,3 +1,5 @@
+-- `wait_of` meets its contract: sheet, then rule; and what is in range waits as its rule says.
+-- Assumes nothing.
 use borrow.Author.Needs.{needs}
 use Rattle.wire.proofs.Tests.{held, failed}
 use Rattle.clock.proofs.patience.wait_of.Statement.{statement}

@@ -1,3 +1,5 @@
+-- `flat_standing` meets its contract: each way in which a record stands is laid flat as the definition has it.
+-- Assumes nothing.
 use borrow.Author.Needs.{needs}
 use Rattle.flat_record.proofs.keeping.flat_standing.Statement.{statement}
 use Rattle.flat_record.proofs.keeping.flat_standing.Tie as tie

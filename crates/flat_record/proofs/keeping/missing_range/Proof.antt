@@ -1,3 +1,5 @@
+-- `missing_range` meets its contract: a record that can be taken up, then the room's own answer, laid flat.
+-- Assumes nothing.
 use borrow.Author.Needs.{needs}
 use Rattle.flat_record.proofs.keeping.missing_range.Statement.{statement}
 use Rattle.flat_record.proofs.keeping.missing_range.Tie as tie

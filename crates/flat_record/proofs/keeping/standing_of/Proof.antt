@@ -1,3 +1,5 @@
+-- `standing_of` meets its contract: a record that can be taken up, then the room's own answer, laid flat.
+-- Assumes nothing.
 use borrow.Author.Needs.{needs}
 use Rattle.flat_record.proofs.keeping.standing_of.Statement.{statement}
 use Rattle.flat_record.proofs.keeping.standing_of.Tie as tie

@@ -1,3 +1,5 @@
+-- `take` meets its contract: a record that can be taken up, then the room's own answer and bytes, laid flat.
+-- Assumes nothing.
 use borrow.Author.Needs.{needs}
 use mathlib.Core.Path.{refl}
 use Rattle.flat_record.proofs.keeping.take.Statement.{statement}
@@ -25,17 +27,12 @@ same-length-2 : tie.Need-same-length-2
 same-length-2 c = search needs
 
 returns : tie.Need-returns
-returns c = rw (
-  ← c .before .before .before .before .before .before .before .before .before .before .is-readable .ensures,
-  c .before .before .before .before .before .before .before .before .before .if1 .taken,
-  ← c .before .before .before .before .before .before .before .before .record-of .ensures,
-)
-    (record {
-      answer = rw (← c .before .before .before .before .before .take .ensures .answer) (c .flat-taken .ensures);
-      bytes = c .before .before .before .before .before .take .ensures .bytes;
-      slots =
-          c .before .before .before .before .before .take .ensures .slots;
-    })
+returns c =
+    let took = c .before .before .before .before .before in
+    let known = took .before .before .before in
+    let t = took .take .ensures in
+    rw (← known .before .before .is-readable .ensures, known .before .if1 .taken, ← known .record-of .ensures)
+    (record { answer = rw (← t .answer) (c .flat-taken .ensures); bytes = t .bytes; slots = t .slots })
 
 returns-2 : tie.Need-returns-2
 returns-2 c = rw (← c .before .before .is-readable .ensures, c .before .if1 .left)

@@ -1,3 +1,5 @@
+-- `ask` meets its contract: a record and a sheet that can be taken up, then the room's own answer, laid flat.
+-- Assumes nothing.
 use borrow.Author.Needs.{needs}
 use mathlib.Core.Path.{_≡_, refl}
 use mathlib.Core.Bool.{Bool, true, false, _&&_}
@@ -52,30 +54,33 @@ flat-asked-requires-2 : tie.Need-flat-asked-requires-2
 flat-asked-requires-2 c κs = search needs
 
 returns : tie.Need-returns
-returns c = rw (
-  together (c .before .before .before .before .before .before .before .before .args .given)
-      (c .before .before .before .before .before .before .before .before .args .sheet)
-      (c .before .before .before .before .before .before .before .before .args .patience)
-      (c .before .before .before .before .before .before .before .before .args .elapsed),
-  ← c .before .before .before .before .before .before .before .is-readable .ensures,
-  ← c .before .before .before .before .before .before .is-flag .ensures,
-  c .before .before .before .before .before .if1 .taken,
-  c .flat-asked .ensures,
-  c .before .ask .ensures,
-  c .before .before .rule-of .ensures,
-  c .before .before .before .sheet-of .ensures,
-  c .before .before .before .before .record-of .ensures,
-)
+returns c =
+    let known = c .before .before .before .before in
+    let flags = known .before .before in
+    let a = flags .before .before .args in
+    rw (
+      together (a .given) (a .sheet) (a .patience) (a .elapsed),
+      ← flags .before .is-readable .ensures,
+      ← flags .is-flag .ensures,
+      known .before .if1 .taken,
+      c .flat-asked .ensures,
+      c .before .ask .ensures,
+      c .before .before .rule-of .ensures,
+      c .before .before .before .sheet-of .ensures,
+      known .record-of .ensures,
+    )
 
 returns-2 : tie.Need-returns-2
-returns-2 c = rw (
-  together (c .before .before .before .before .args .given) (c .before .before .before .before .args .sheet)
-      (c .before .before .before .before .args .patience) (c .before .before .before .before .args .elapsed),
-  ← c .before .before .before .is-readable .ensures,
-  ← c .before .before .is-flag .ensures,
-  c .before .if1 .left,
-  c .flat-asked2 .ensures,
-)
+returns-2 c =
+    let flags = c .before .before in
+    let a = flags .before .before .args in
+    rw (
+      together (a .given) (a .sheet) (a .patience) (a .elapsed),
+      ← flags .before .is-readable .ensures,
+      ← flags .is-flag .ensures,
+      c .before .if1 .left,
+      c .flat-asked2 .ensures,
+    )
 
 pub ask-spec : {M : Type 1} → statement M
 ask-spec =

@@ -1,3 +1,5 @@
+-- `flat_asked` meets its contract: each thing that can be wished is laid flat as the definition has it.
+-- Assumes nothing.
 use borrow.Author.Needs.{needs}
 use Rattle.flat_record.proofs.requesting.flat_asked.Statement.{statement}
 use Rattle.flat_record.proofs.requesting.flat_asked.Tie as tie

@@ -1,3 +1,5 @@
+-- `fits` meets its contract: all slots fit exactly if those that are left do.
+-- Assumes nothing.
 use Prim.Native.Nat.{_-_, _≤_}
 use mathlib.Core.Path.{_≡_, refl, sym, _∙_}
 use native.Mathlib.Omega.{arith}
@@ -14,6 +16,7 @@ Inv-loop held area slot₀ slot = (slot ≤ 32) × (every 32 (fits held area) �
 abbrev μ-loop : tie.MeasureT-loop
 μ-loop held area slot₀ slot = slot
 
+-- The loop looks from slot 31 down to 0; so far every full one that was looked at states a length that it has room for.
 loop-holds : tie.Need-loop-holds Inv-loop μ-loop
 loop-holds c = (omega arith, refl)
 
@@ -39,10 +42,12 @@ cast-if2 c = search needs
 
 returns : tie.Need-returns Inv-loop μ-loop
 returns c =
-    let l = c .before .before .before .before .before .loop in
-    let a = c .before .before .before .before .before .before .before .args in
-    let e = sym (c .before .before .before .is-full .ensures) ∙ c .before .before .if1 .taken in
-    sym (l .inv .1 ∙ every-fails (fits (a .held) (now (a .area))) (l .slot) (c .before .before .before .before .loop-test .taken)
+    let full = c .before .before in
+    let turn = full .before .before in
+    let l = turn .before .loop in
+    let a = turn .before .before .before .args in
+    let e = sym (full .before .is-full .ensures) ∙ full .if1 .taken in
+    sym (l .inv .1 ∙ every-fails (fits (a .held) (now (a .area))) (l .slot) (turn .loop-test .taken)
     (overlong (a .held) (now (a .area)) (l .slot - 1) e (omega (arith, c .if2 .taken, c .before .get2 .ensures))))
 
 loop-less : tie.Need-loop-less Inv-loop μ-loop
@@ -50,23 +55,22 @@ loop-less c = search needs
 
 loop-again : tie.Need-loop-again Inv-loop μ-loop
 loop-again c =
-    let l = c .before .before .before .before .before .loop in
-    let a = c .before .before .before .before .before .before .before .args in
-    let p = short-fits (a .held) (now (a .area)) (l .slot - 1) (omega (arith, c .if2 .left, c .before .get2 .ensures)) in (
-      omega (arith, l .inv .0),
-      l .inv .1 ∙ every-step (fits (a .held) (now (a .area))) (l .slot)
-          (c .before .before .before .before .loop-test .taken) p,
-    )
+    let turn = c .before .before .before .before in
+    let l = turn .before .loop in
+    let a = turn .before .before .before .args in
+    let p = short-fits (a .held) (now (a .area)) (l .slot - 1) (omega (arith, c .if2 .left, c .before .get2 .ensures)) in
+    (omega (arith, l .inv .0), l .inv .1 ∙ every-step (fits (a .held) (now (a .area))) (l .slot) (turn .loop-test .taken) p)
 
 loop-less-2 : tie.Need-loop-less-2 Inv-loop μ-loop
 loop-less-2 c = search needs
 
 loop-again-2 : tie.Need-loop-again-2 Inv-loop μ-loop
 loop-again-2 c =
-    let l = c .before .before .before .loop in
-    let a = c .before .before .before .before .before .args in
+    let turn = c .before .before in
+    let l = turn .before .loop in
+    let a = turn .before .before .before .args in
     let p = free-fits (a .held) (now (a .area)) (l .slot - 1) (sym (c .before .is-full .ensures) ∙ c .if1 .left) in
-    (omega (arith, l .inv .0), l .inv .1 ∙ every-step (fits (a .held) (now (a .area))) (l .slot) (c .before .before .loop-test .taken) p)
+    (omega (arith, l .inv .0), l .inv .1 ∙ every-step (fits (a .held) (now (a .area))) (l .slot) (turn .loop-test .taken) p)
 
 returns-2 : tie.Need-returns-2 Inv-loop μ-loop
 returns-2 c =

@@ -21,8 +21,9 @@ fits-requires c κs = search needs
 
 returns-3 : tie.Need-returns-3
 unfolding sound
-returns-3 c = rw (le-leb areaSize (length (now (c .before .before .before .before .args .area))) (c .before .before .if1 .left))
-    (c .fits2 .ensures)
+returns-3 c =
+    let long = c .before .before in
+    rw (le-leb areaSize (length (now (long .before .before .args .area))) (long .if1 .left)) (c .fits2 .ensures)
 
 pub is-sound-spec : {M : Type 1} → statement M
 is-sound-spec = tie.close (tie.spec returns returns-2 fits-requires returns-3)

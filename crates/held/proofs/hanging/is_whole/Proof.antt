@@ -1,3 +1,5 @@
+-- `is_whole` meets its contract: an area of 32 slots; with nothing held no more is asked, else bitmap and lengths are.
+-- Assumes nothing.
 use mathlib.Core.Path.{sym}
 use mathlib.Core.Bool.{and-false}
 use borrow.Author.Tests.{le-leb, lt-leb}

@@ -1,10 +1,17 @@
-use mathlib.Core.Path.{ap, sym, _∙_}
+use mathlib.Core.Path.{_≡_, ap, sym, _∙_}
 use denote.Ref.{now}
-use Rattle.held.specs.Slots.{isFull}
+use Rattle.held.specs.Slots.{isFull, full}
 use Rattle.held.proofs.Trying.{not-early, too-far, slot-full, too-long, no-slots, lies-there}
 use borrow.Author.Needs.{needs}
 use Rattle.held.proofs.holding.hold.Statement.{statement}
 use Rattle.held.proofs.holding.hold.Tie as tie
+
+-- Each way out is a law of Trying: what stood in the message's way, or nothing. So much is known once its slot was looked at:
+abbrev start : tie.After-is-full → tie.Start
+start c = c .before .before .before .before .before .before
+
+slot-is : (c : tie.After-is-full) → full (start c .args .held) (start c .args .number) ≡ c .is-full .result
+slot-is c = ap (isFull (start c .args .held)) (sym (c .before .slot-of .ensures .0)) ∙ sym (c .is-full .ensures)
 
 returns : tie.Need-returns
 returns c =
@@ -27,25 +34,24 @@ is-full-requires c κs = search needs
 
 returns-3 : tie.Need-returns-3
 returns-3 c =
-    let a = c .before .before .before .before .before .before .before .args in
-    slot-full (a .next) (a .held) (a .number) (now (a .area)) (now (a .message)) (c .before .before .before .before .if1 .left)
-    (c .before .before .before .if2 .left) (ap (isFull (a .held)) (sym (c .before .before .slot-of .ensures .0))
-    ∙ sym (c .before .is-full .ensures) ∙ c .if3 .taken)
+    let at = c .before in
+    let a = start at .args in
+    slot-full (a .next) (a .held) (a .number) (now (a .area)) (now (a .message)) (at .before .before .before .if1 .left)
+    (at .before .before .if2 .left) (slot-is at ∙ c .if3 .taken)
 
 returns-4 : tie.Need-returns-4
 returns-4 c =
-    let a = c .before .before .before .before .before .before .before .before .args in
-    too-long (a .next) (a .held) (a .number) (now (a .area)) (now (a .message)) (c .before .before .before .before .before .if1 .left)
-    (c .before .before .before .before .if2 .left) (ap (isFull (a .held)) (sym (c .before .before .before .slot-of .ensures .0))
-    ∙ sym (c .before .before .is-full .ensures) ∙ c .before .if3 .left) (c .if4 .taken)
+    let at = c .before .before in
+    let a = start at .args in
+    too-long (a .next) (a .held) (a .number) (now (a .area)) (now (a .message)) (at .before .before .before .if1 .left)
+    (at .before .before .if2 .left) (slot-is at ∙ c .before .if3 .left) (c .if4 .taken)
 
 returns-5 : tie.Need-returns-5
 returns-5 c =
-    let a = c .before .before .before .before .before .before .before .before .before .args in
-    no-slots (a .next) (a .held) (a .number) (now (a .area)) (now (a .message))
-    (c .before .before .before .before .before .before .if1 .left) (c .before .before .before .before .before .if2 .left)
-    (ap (isFull (a .held)) (sym (c .before .before .before .before .slot-of .ensures .0))
-    ∙ sym (c .before .before .before .is-full .ensures) ∙ c .before .before .if3 .left) (c .before .if4 .left) (c .if5 .taken)
+    let at = c .before .before .before in
+    let a = start at .args in
+    no-slots (a .next) (a .held) (a .number) (now (a .area)) (now (a .message)) (at .before .before .before .if1 .left)
+    (at .before .before .if2 .left) (slot-is at ∙ c .before .before .if3 .left) (c .before .if4 .left) (c .if5 .taken)
 
 lay-requires : tie.Need-lay-requires
 lay-requires c κs = search needs
@@ -58,16 +64,12 @@ same-length c = search needs
 
 returns-6 : tie.Need-returns-6
 returns-6 c =
-    let a = c .before .before .before .before .before .before .before .before .before .before .before .before .before .before .args in
-    let s = c .before .before .before .before .before .before .before .before .before .slot-of .ensures .0 in
-    let l = lies-there (a .next) (a .held) (a .number) (now (a .area)) (now (a .message))
-    (c .before .before .before .before .before .before .before .before .before .before .before .if1 .left)
-    (c .before .before .before .before .before .before .before .before .before .before .if2 .left)
-    (ap (isFull (a .held)) (sym (c .before .before .before .before .before .before .before .before .before .slot-of .ensures .0))
-    ∙ sym (c .before .before .before .before .before .before .before .before .is-full .ensures)
-    ∙ c .before .before .before .before .before .before .before .if3 .left)
-    (c .before .before .before .before .before .before .if4 .left) (c .before .before .before .before .before .if5 .left) in
-    rw (c .fill .ensures, c .before .before .before .lay .ensures, s) l
+    let free = c .before .before .before .before .before in
+    let at = free .before .before .before in
+    let a = start at .args in
+    rw (c .fill .ensures, c .before .before .before .lay .ensures, at .before .slot-of .ensures .0)
+    (lies-there (a .next) (a .held) (a .number) (now (a .area)) (now (a .message)) (at .before .before .before .if1 .left)
+    (at .before .before .if2 .left) (slot-is at ∙ free .before .before .if3 .left) (free .before .if4 .left) (free .if5 .left))
 
 pub hold-spec : {M : Type 1} → statement M
 hold-spec =

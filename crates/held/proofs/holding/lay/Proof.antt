@@ -1,3 +1,5 @@
+-- `lay` meets its contract: two length bytes and the message, stored side by side, are its block.
+-- Assumes nothing.
 use Prim.Native.Nat.{_*_}
 use native.Mathlib.Omega.{arith}
 use lib.ListN.{length}
@@ -29,14 +31,12 @@ same-length c = search needs
 
 returns : tie.Need-returns
 returns c =
-    let a = c .before .before .before .before .before .before .before .before .before .before .args in
+    let copied = c .before .before in
+    let stated = copied .before .before .before .before in
+    let a = stated .before .before .before .before .args in
     let m = now (a .message) in
-    rw (
-      c .before .before .copy .ensures,
-      c .before .before .before .before .before .before .put2 .ensures,
-      take-all (length m) m
-          (omega arith),
-    ) (sets-after (now (a .area)) (1472 * a .slot) 2 (bytesOf 2 (length m)) m (length-bytesOf 2 (length m)))
+    rw (copied .copy .ensures, stated .put2 .ensures, take-all (length m) m (omega arith))
+    (sets-after (now (a .area)) (1472 * a .slot) 2 (bytesOf 2 (length m)) m (length-bytesOf 2 (length m)))
 
 pub lay-spec : {M : Type 1} → statement M
 lay-spec =

@@ -1,3 +1,5 @@
+-- `lay` meets its contract: the blocks laid so far, with those that are left, are all that is released.
+-- Assumes nothing.
 use Prim.Native.Nat.{ℕ, _+_, _-_, _*_, _%_, _≤_, _<_}
 use mathlib.Core.Path.{_≡_, refl, ap, sym, _∙_}
 use native.Mathlib.Omega.{arith}
@@ -8,7 +10,7 @@ use Rattle.wire.specs.Fields.{Bytes}
 use Rattle.blocks.specs.Blocks.{frames, stated}
 use Rattle.held.specs.Slots.{longest, slotOf, slotAt}
 use Rattle.held.specs.Releasing.{heldFrom}
-use Rattle.held.proofs.Going.{slot-next, moved, begun, size-step, lay-step, lay-ended}
+use Rattle.held.proofs.Going.{slot-next, moved, begun, next-states, size-step, lay-step, lay-ended}
 use borrow.Author.Needs.{needs}
 use Rattle.held.proofs.releasing.lay.Statement.{statement}
 use Rattle.held.proofs.releasing.lay.Tie as tie
@@ -22,32 +24,36 @@ Inv-loop number messages area out₀ at slot₀ left₀ to₀ out slot left to =
 abbrev μ-loop : tie.MeasureT-loop
 μ-loop number messages area out₀ at slot₀ left₀ to₀ out slot left to = left
 
-bytes : (c : tie.After-get2 Inv-loop μ-loop) → Bytes (now (c .before .before .before .before .before .before .args .area))
+-- Each turn copies one slot's block behind those before it; the blocks of the messages that are left are still to be stored from there on.
+-- A turn that has read a length:
+abbrev start : tie.After-get2 Inv-loop μ-loop → tie.Start Inv-loop μ-loop
+start c = c .before .before .before .before .before .before
+
+bytes : (c : tie.After-get2 Inv-loop μ-loop) → Bytes (now (start c .args .area))
 bytes c i = c .before .before .before .before .before .shared-slice-known .given i .fits
 
 -- the slot states a length that it has room for, and so much goes out
-states : (c : tie.After-get2 Inv-loop μ-loop) → let a = c .before .before .before .before .before .before .args in
-    (c .get2 .result ≡ stated (slotAt (now (a .area)) (slotOf (a .number + (a .messages - c .before .before .loop .left)))))
-    × (c .get2 .result ≤ longest)
+states : (c : tie.After-get2 Inv-loop μ-loop) → let a = start c .args in
+    let m = a .number + (a .messages - c .before .before .loop .left) in
+    (c .get2 .result ≡ stated (slotAt (now (a .area)) (slotOf m))) × (c .get2 .result ≤ longest)
 states c =
     let l = c .before .before .loop in
-    let a = c .before .before .before .before .before .before .args in
-    let e = c .get2 .ensures ∙ ap (λ (i : ℕ). stated (slotAt (now (a .area)) i)) (l .inv .2) in (
-      e,
-      rw e (c .before .before .before .before .before .before .pre .0 .room (a .messages - l .left)
-          (omega (arith, l .inv .0, c .before .loop-test .taken))),
-    )
+    let a = start c .args in
+    next-states (now (a .area)) (a .number) (a .messages) (l .left) (l .slot) _ (start c .pre .0) (c .before .loop-test .taken) (l .inv .0)
+    (l .inv .2) (c .get2 .ensures)
 
-sized : (c : tie.After-get2 Inv-loop μ-loop) → let a = c .before .before .before .before .before .before .args in
-    let m = a .number + (a .messages - c .before .before .loop .left) in
-    length (frames (heldFrom (c .before .before .loop .left) (now (a .area)) m)) ≡ 2 + c .get2 .result + length
-    (frames (heldFrom (c .before .before .loop .left - 1) (now (a .area)) (m + 1)))
+sized : (c : tie.After-get2 Inv-loop μ-loop) → let a = start c .args in
+    let left = c .before .before .loop .left in
+    let m = a .number + (a .messages - left) in
+    length (frames (heldFrom left (now (a .area)) m))
+    ≡ 2 + c .get2 .result + length (frames (heldFrom (left - 1) (now (a .area)) (m + 1)))
 sized c =
     let l = c .before .before .loop in
-    let a = c .before .before .before .before .before .before .args in
+    let a = start c .args in
+    let m = a .number + (a .messages - l .left) in
     let s = states c in
-    rw (s .0) (size-step (l .left) (now (a .area)) (bytes c) (a .number + (a .messages - l .left)) (c .before .loop-test .taken)
-    (c .before .before .before .before .before .before .pre .0 .long) (rw (s .0) at (s .1)))
+    size-step (l .left) (now (a .area)) (bytes c) m (c .before .loop-test .taken) (start c .pre .0 .long) (rw (s .0) at (s .1))
+    ∙ ap (λ (n : ℕ). 2 + n + length (frames (heldFrom (l .left - 1) (now (a .area)) (m + 1)))) (sym (s .0))
 
 slot-of-requires : tie.Need-slot-of-requires Inv-loop μ-loop
 slot-of-requires c κs = search needs
@@ -75,17 +81,16 @@ add-bytes c = search needs
 
 copy-requires : tie.Need-copy-requires Inv-loop μ-loop
 copy-requires c κs =
-    let g = c .before in
-    let l = g .before .before .loop in
-    let f = g .before .before .before .before .before .before .pre .0 in
-    let s = states g in
-    (omega (arith, sized g, s .0, l .inv .3, l .inv .4), omega (arith, s .1, l .inv .1, f .long))
+    let at = c .before in
+    let l = at .before .before .loop in
+    let s = states at in
+    (omega (arith, sized at, s .0, l .inv .3, l .inv .4), omega (arith, s .1, l .inv .1, start at .pre .0 .long))
 
 add-to : tie.Need-add-to Inv-loop μ-loop
 add-to c =
-    let g = c .before .before .before .before in
-    let l = g .before .before .loop in
-    omega (arith, sized g, states g .0, l .inv .4)
+    let at = c .before .before .before .before in
+    let l = at .before .before .loop in
+    omega (arith, sized at, states at .0, l .inv .4)
 
 after-requires : tie.Need-after-requires Inv-loop μ-loop
 after-requires c κs = search needs
@@ -98,22 +103,20 @@ loop-less c = search needs
 
 loop-again : tie.Need-loop-again Inv-loop μ-loop
 loop-again c =
-    let g = c .before .before .before .before .before in
-    let l = g .before .before .loop in
-    let a = g .before .before .before .before .before .before .args in
-    let f = g .before .before .before .before .before .before .pre .0 in
+    let at = c .before .before .before .before .before in
+    let l = at .before .before .loop in
+    let a = at .before .before .before .before .before .before .args in
     let m = a .number + (a .messages - l .left) in
-    let t = g .before .loop-test .taken in
+    let t = at .before .loop-test .taken in
     let k = moved (a .number) (a .messages) (l .left) t (l .inv .0) in
-    let s = states g in
-    let z = sized g in
-    let p = lay-step (l .left) (now (a .area)) (bytes g) m t (f .long) (rw (s .0) at (s .1)) (l .out) (l .to) in
+    let s = states at in
+    let p = lay-step (l .left) (now (a .area)) (bytes at) m t (start at .pre .0 .long) (rw (s .0) at (s .1)) (l .out) (l .to) in
     let e = c .before .before .before .copy .ensures in (
       omega (arith, l .inv .0),
       c .after .ensures .1,
       c .after .ensures .0 ∙ ap (λ (i : ℕ). (i + 1) % 32) (l .inv .2) ∙ slot-next m ∙ ap slotOf (sym k),
-      ap length e ∙ length-sets (l .out) (l .to) (take (2 + g .get2 .result) (drop (1472 * l .slot) (now (a .area)))) ∙ l .inv .3,
-      rw k (omega (arith, z, l .inv .4)),
+      ap length e ∙ length-sets (l .out) (l .to) (take (2 + at .get2 .result) (drop (1472 * l .slot) (now (a .area)))) ∙ l .inv .3,
+      rw k (omega (arith, sized at, l .inv .4)),
       l .inv .5 ∙ rw (k, e, l .inv .2, s .0) p,
     )
 

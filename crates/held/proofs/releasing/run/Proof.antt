@@ -1,3 +1,5 @@
+-- `run` meets its contract: the run so far, with the run from there on, is the run from the start.
+-- Assumes nothing.
 use Prim.Native.Nat.{ℕ, _+_, _-_, _%_, _≤_, _<_}
 use mathlib.Core.Path.{_≡_, ap, sym, _∙_}
 use native.Mathlib.Omega.{arith}
@@ -19,6 +21,7 @@ Inv-loop held number slot₀ left₀ slot left =
 abbrev μ-loop : tie.MeasureT-loop
 μ-loop held number slot₀ left₀ slot left = left
 
+-- The run is as many as were found full, and the run from there on.
 slot-of-requires : tie.Need-slot-of-requires Inv-loop μ-loop
 slot-of-requires c κs = search needs
 
@@ -35,8 +38,9 @@ sub-result c = search needs
 
 returns : tie.Need-returns Inv-loop μ-loop
 returns c =
-    let l = c .before .before .before .loop in
-    let a = c .before .before .before .before .before .args in
+    let turn = c .before .before in
+    let l = turn .before .loop in
+    let a = turn .before .before .before .args in
     let m = a .number + (31 - l .left) in
     let e : full (a .held) m ≡ false = failed (rw (l .inv .2) at (c .before .is-full .ensures)) (c .if1 .taken) in
     (sym (l .inv .3 ∙ rw (run-none (l .left) (a .held) m e) (omega arith)), omega arith)
@@ -52,10 +56,11 @@ loop-less c = search needs
 
 loop-again : tie.Need-loop-again Inv-loop μ-loop
 loop-again c =
-    let l = c .before .before .before .before .loop in
-    let a = c .before .before .before .before .before .before .args in
+    let turn = c .before .before .before in
+    let l = turn .before .loop in
+    let a = turn .before .before .before .args in
     let m = a .number + (31 - l .left) in
-    let t = c .before .before .before .loop-test .taken in
+    let t = turn .loop-test .taken in
     let k = moved (a .number) 31 (l .left) t (l .inv .0) in
     let e : full (a .held) m ≡ true = held (rw (l .inv .2) at (c .before .before .is-full .ensures)) (c .before .if1 .left) in (
       omega (arith, l .inv .0),

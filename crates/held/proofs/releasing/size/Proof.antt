@@ -1,3 +1,5 @@
+-- `size` meets its contract: the bytes counted so far, with those of the slots that are left, are all of them.
+-- Assumes nothing.
 use Prim.Native.Nat.{ℕ, _+_, _-_, _*_, _%_, _≤_, _<_}
 use mathlib.Core.Path.{_≡_, ap, sym, _∙_}
 use native.Mathlib.Omega.{arith}
@@ -7,7 +9,7 @@ use Rattle.wire.specs.Fields.{Bytes}
 use Rattle.blocks.specs.Blocks.{frames, stated}
 use Rattle.held.specs.Slots.{longest, slotOf, slotAt}
 use Rattle.held.specs.Releasing.{heldFrom}
-use Rattle.held.proofs.Going.{slot-next, moved, begun, size-step, size-ended}
+use Rattle.held.proofs.Going.{slot-next, moved, begun, next-states, size-step, size-ended}
 use borrow.Author.Needs.{needs}
 use Rattle.held.proofs.releasing.size.Statement.{statement}
 use Rattle.held.proofs.releasing.size.Tie as tie
@@ -20,21 +22,22 @@ Inv-loop number messages area slot₀ left₀ bytes₀ slot left bytes =
 abbrev μ-loop : tie.MeasureT-loop
 μ-loop number messages area slot₀ left₀ bytes₀ slot left bytes = left
 
-bytes : (c : tie.After-get2 Inv-loop μ-loop) → Bytes (now (c .before .before .before .before .before .args .area))
+-- Each turn adds one block's bytes; those of the messages that are left are still to come. A turn that has read a length:
+abbrev start : tie.After-get2 Inv-loop μ-loop → tie.Start Inv-loop μ-loop
+start c = c .before .before .before .before .before
+
+bytes : (c : tie.After-get2 Inv-loop μ-loop) → Bytes (now (start c .args .area))
 bytes c i = c .before .before .before .before .shared-slice-known .given i .fits
 
 -- the slot states a length that it has room for
-states : (c : tie.After-get2 Inv-loop μ-loop) → let a = c .before .before .before .before .before .args in
-    (c .get2 .result ≡ stated (slotAt (now (a .area)) (slotOf (a .number + (a .messages - c .before .before .loop .left)))))
-    × (c .get2 .result ≤ longest)
+states : (c : tie.After-get2 Inv-loop μ-loop) → let a = start c .args in
+    let m = a .number + (a .messages - c .before .before .loop .left) in
+    (c .get2 .result ≡ stated (slotAt (now (a .area)) (slotOf m))) × (c .get2 .result ≤ longest)
 states c =
     let l = c .before .before .loop in
-    let a = c .before .before .before .before .before .args in
-    let e = c .get2 .ensures ∙ ap (λ (i : ℕ). stated (slotAt (now (a .area)) i)) (l .inv .2) in (
-      e,
-      rw e (c .before .before .before .before .before .pre .room (a .messages - l .left)
-          (omega (arith, l .inv .0, c .before .loop-test .taken))),
-    )
+    let a = start c .args in
+    next-states (now (a .area)) (a .number) (a .messages) (l .left) (l .slot) _ (start c .pre) (c .before .loop-test .taken) (l .inv .0)
+    (l .inv .2) (c .get2 .ensures)
 
 slot-of-requires : tie.Need-slot-of-requires Inv-loop μ-loop
 slot-of-requires c κs = search needs
@@ -62,13 +65,9 @@ add-bytes : tie.Need-add-bytes Inv-loop μ-loop
 add-bytes c = search needs
 
 add-bytes-2 : tie.Need-add-bytes-2 Inv-loop μ-loop
-add-bytes-2 c = omega (
-  arith,
-  states c,
-  c .before .before .loop .inv .3,
-  c .before .before .loop .inv .0,
-  c .before .before .before .before .before .pre .few,
-)
+add-bytes-2 c =
+    let l = c .before .before .loop in
+    omega (arith, states c, l .inv .3, l .inv .0, start c .pre .few)
 
 after-requires : tie.Need-after-requires Inv-loop μ-loop
 after-requires c κs = search needs
@@ -81,15 +80,14 @@ loop-less c = search needs
 
 loop-again : tie.Need-loop-again Inv-loop μ-loop
 loop-again c =
-    let l = c .before .before .before .loop in
-    let a = c .before .before .before .before .before .before .args in
-    let f = c .before .before .before .before .before .before .pre in
+    let at = c .before in
+    let l = at .before .before .loop in
+    let a = start at .args in
     let m = a .number + (a .messages - l .left) in
-    let t = c .before .before .loop-test .taken in
+    let t = at .before .loop-test .taken in
     let k = moved (a .number) (a .messages) (l .left) t (l .inv .0) in
-    let s = states (c .before) in
-    let z = size-step (l .left) (now (a .area)) (bytes (c .before)) m t (f .long)
-    (f .room (a .messages - l .left) (omega (arith, l .inv .0))) in (
+    let s = states at in
+    let z = size-step (l .left) (now (a .area)) (bytes at) m t (start at .pre .long) (rw (s .0) at (s .1)) in (
       omega (arith, l .inv .0),
       c .after .ensures .1,
       c .after .ensures .0 ∙ ap (λ (i : ℕ). (i + 1) % 32) (l .inv .2) ∙ slot-next m ∙ ap slotOf (sym k),

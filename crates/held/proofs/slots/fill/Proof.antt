@@ -16,17 +16,16 @@ add-result : tie.Need-add-result
 add-result c =
     let a = c .before .before .args in
     let p = c .before .before .pre in
-    rw (power (a .slot) p) (record {
-      fits = set-fits 32 (a .slot) (a .held) (c .before .before .fits .held .fits) p (sym
-          (c .before .is-full .ensures) ∙ c .if1 .left);
-    })
+    let free = sym (c .before .is-full .ensures) ∙ c .if1 .left in
+    rw (power (a .slot) p) (record { fits = set-fits 32 (a .slot) (a .held) (c .before .before .fits .held .fits) p free })
 
 returns : tie.Need-returns
 returns c = rw (← c .before .is-full .ensures, c .if1 .taken)
 
 returns-2 : tie.Need-returns-2
-returns-2 c = rw (← c .before .is-full .ensures, c .if1 .left)
-    (ap (λ (x : ℕ). c .before .before .args .held + x) (power (c .before .before .args .slot) (c .before .before .pre)))
+returns-2 c =
+    let s = c .before .before in
+    rw (← c .before .is-full .ensures, c .if1 .left) (ap (λ (x : ℕ). s .args .held + x) (power (s .args .slot) (s .pre)))
 
 pub fill-spec : {M : Type 1} → statement M
 fill-spec = tie.close (tie.spec is-full-requires shl-result add-result returns returns-2)

@@ -18,8 +18,9 @@ sub-result c =
     rw (power (a .slot) (c .before .before .pre)) (bit-within (a .slot) (a .held) (sym (c .before .is-full .ensures) ∙ c .if1 .taken))
 
 returns : tie.Need-returns
-returns c = rw (← c .before .is-full .ensures, c .if1 .taken)
-    (ap (λ (x : ℕ). c .before .before .args .held - x) (power (c .before .before .args .slot) (c .before .before .pre)))
+returns c =
+    let s = c .before .before in
+    rw (← c .before .is-full .ensures, c .if1 .taken) (ap (λ (x : ℕ). s .args .held - x) (power (s .args .slot) (s .pre)))
 
 returns-2 : tie.Need-returns-2
 returns-2 c = rw (← c .before .is-full .ensures, c .if1 .left)

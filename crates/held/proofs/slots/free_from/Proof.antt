@@ -1,3 +1,5 @@
+-- `free_from` meets its contract: the slots freed so far, and then those that are left, are all that fall free.
+-- Assumes nothing.
 use Prim.Native.Nat.{ℕ, _+_, _-_, _%_, _≤_, _<_}
 use mathlib.Core.Path.{_≡_, refl, ap, sym, _∙_}
 use native.Mathlib.Omega.{arith}
@@ -16,6 +18,7 @@ Inv-loop held number count kept₀ slot₀ left₀ kept slot left =
 abbrev μ-loop : tie.MeasureT-loop
 μ-loop held number count kept₀ slot₀ left₀ kept slot left = left
 
+-- Each turn frees one slot; those of the messages that are left are still to be freed, in the bitmap that is kept.
 returns : tie.Need-returns Inv-loop μ-loop
 returns c = sym (rw (c .if1 .taken) (freed-none (c .before .args .count) (c .before .args .number)))
 
@@ -47,10 +50,11 @@ loop-less c = search needs
 
 loop-again : tie.Need-loop-again Inv-loop μ-loop
 loop-again c =
-    let l = c .before .before .before .before .loop in
-    let a = c .before .before .before .before .before .before .before .args in
+    let turn = c .before .before .before in
+    let l = turn .before .loop in
+    let a = turn .before .before .before .before .args in
     let m = a .number + (a .count - l .left) in
-    let t = c .before .before .before .loop-test .taken in
+    let t = turn .loop-test .taken in
     let k = moved (a .number) (a .count) (l .left) t (l .inv .0) in (
       omega (arith, l .inv .0),
       c .after .ensures .1,

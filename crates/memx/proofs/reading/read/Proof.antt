@@ -7,6 +7,12 @@ use borrow.Author.Needs.{needs}
 use Rattle.memx.proofs.reading.read.Statement.{statement}
 use Rattle.memx.proofs.reading.read.Tie as tie
 
+-- Each return is one of the checks that all types share, or what the type's own reader says behind them.
+
+-- the header's length is a byte
+header-byte : (c : tie.Else3) → headerIn (now (c .before .before .before .before .before .args .d)) ≤ 255
+header-byte c = let f = c .before .before .before .before .shared-slice-known .given 1 .fits in omega arith
+
 returns : tie.Need-returns
 unfolding read
 returns c = search tests
@@ -45,15 +51,13 @@ read-news-requires c κs = search needs
 returns-6 : tie.Need-returns-6
 unfolding read
 returns-6 c =
-    let s = c .before .before .before .before .before .before .before .before .before in
-    let byte : headerIn (now (s .before .args .d)) ≤ 255 = let f = s .shared-slice-known .given 1 .fits in omega arith in
+    let byte = header-byte (c .before .before .before .before .before) in
     rw (c .read-messages .ensures) (search tests)
 
 returns-7 : tie.Need-returns-7
 unfolding read
 returns-7 c =
-    let s = c .before .before .before .before .before .before .before .before .before in
-    let byte : headerIn (now (s .before .args .d)) ≤ 255 = let f = s .shared-slice-known .given 1 .fits in omega arith in
+    let byte = header-byte (c .before .before .before .before .before) in
     rw (c .read-news .ensures) (search tests)
 
 pub read-spec : {M : Type 1} → statement M

@@ -1,5 +1,6 @@
-use Prim.Native.Nat.{_+_, _-_, _^_, _≤_, _<_}
+use Prim.Native.Nat.{ℕ, _+_, _-_, _^_, _≤_, _<_}
 use mathlib.Core.Path.{_≡_, _∙_}
+use mathlib.Core.List.{List}
 use denote.Ref.{now}
 use native.Mathlib.Omega.{arith}
 use borrow.Author.Tests.{not-true, not-false}
@@ -13,10 +14,15 @@ use borrow.Author.Needs.{needs}
 use Rattle.memx.proofs.reading.read_messages.Statement.{statement}
 use Rattle.memx.proofs.reading.read_messages.Tie as tie
 
+-- The checks of messages in their order: in each need e is the place where the blocks were tested.
+
 -- what the blocks' test said
-whole : (c : tie.After-exactly) → isWhole (blocksIn (now (c .before .before .before .before .before .args .d))) ≡ c .exactly .result
+abbrev packet : tie.After-exactly → List ℕ
+packet c = now (c .before .before .before .before .before .args .d)
+
+whole : (c : tie.After-exactly) → isWhole (blocksIn (packet c)) ≡ c .exactly .result
 whole c =
-    let d = now (c .before .before .before .before .before .args .d) in
+    let d = packet c in
     rw (← c .before .get2 .ensures) (fills-says d (blocksAt d) (c .before .get2 .result) _ (omega arith) (c .exactly .ensures))
 
 shared-slice-read-header : tie.Need-shared-slice-read-header
@@ -87,21 +93,23 @@ sub-extra : tie.Need-sub-extra
 sub-extra c = search needs
 
 cast-extra : tie.Need-cast-extra
-cast-extra c = let byte = c .before .before .before .before .before .before .before .before .before .before .shared-slice-known .given
-    1 .fits in omega arith
+cast-extra c =
+    let e = c .before .before .before .before .before .before in
+    let byte = e .before .before .before .before .shared-slice-known .given 1 .fits in
+    omega arith
 
 returns-6 : tie.Need-returns-6
 unfolding readMessages
 returns-6 c =
-    let e = c .before .before .before .before .before .before in
-    let s = e .before .before .before .before .before in
-    let d = now (s .args .d) in
-    let w = whole e ∙ not-false (e .exactly .result) (c .before .before .before .before .before .if2 .left) in
-    let h : c .before .before .before .before .get8 .result + e .before .get2 .result ≤ 2 ^ 64 - 1 = omega arith in
+    let first = c .before .before .before .before in
+    let e = first .before .before in
+    let d = packet e in
+    let w = whole e ∙ not-false (e .exactly .result) (first .before .if2 .left) in
+    let h : first .get8 .result + e .before .get2 .result ≤ 2 ^ 64 - 1 = omega arith in
     let l : headerIn d ≤ length d = omega arith in
     let n = length-cut (countIn d) (drop (blocksAt d) d) (messagesOf (blocksIn d)) (whole-is (blocksIn d) w) in
-    rw (w, ← c .before .before .before .before .get8 .ensures, ← c .get82 .ensures, ← e .before .get2 .ensures)
-    (search (tests, rw (← e .before .get2 .ensures) at n, length-extra d (s .pre .1) l))
+    rw (w, ← first .get8 .ensures, ← c .get82 .ensures, ← e .before .get2 .ensures)
+    (search (tests, rw (← e .before .get2 .ensures) at n, length-extra d (e .before .before .before .before .before .pre .1) l))
 
 pub read-messages-spec : {M : Type 1} → statement M
 read-messages-spec =

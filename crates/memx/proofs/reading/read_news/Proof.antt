@@ -9,6 +9,8 @@ use borrow.Author.Needs.{needs}
 use Rattle.memx.proofs.reading.read_news.Statement.{statement}
 use Rattle.memx.proofs.reading.read_news.Tie as tie
 
+-- The checks of a heartbeat or shutdown in their order; the last two returns differ in the type alone.
+
 shared-slice-read-header : tie.Need-shared-slice-read-header
 shared-slice-read-header c = search needs
 
@@ -40,22 +42,22 @@ cast-extra c = let byte = c .before .before .before .before .before .shared-slic
 returns-3 : tie.Need-returns-3
 unfolding readNews
 returns-3 c =
-    let n = c .before .before .before .get8 in
-    let d = now (c .before .before .before .before .before .before .before .args .d) in
-    let h : n .result ≤ 2 ^ 64 - 2 = omega arith in
+    let found = c .before .before .before in
+    let start = found .before .before .before .before in
+    let d = now (start .args .d) in
+    let h : found .get8 .result ≤ 2 ^ 64 - 2 = omega arith in
     let l : headerIn d ≤ length d = omega arith in
-    rw (← n .ensures, ← c .before .get82 .ensures)
-    (search (tests, length-extra d (c .before .before .before .before .before .before .before .pre .1) l))
+    rw (← found .get8 .ensures, ← c .before .get82 .ensures) (search (tests, length-extra d (start .pre .1) l))
 
 returns-4 : tie.Need-returns-4
 unfolding readNews
 returns-4 c =
-    let n = c .before .before .before .get8 in
-    let d = now (c .before .before .before .before .before .before .before .args .d) in
-    let h : n .result ≤ 2 ^ 64 - 2 = omega arith in
+    let found = c .before .before .before in
+    let start = found .before .before .before .before in
+    let d = now (start .args .d) in
+    let h : found .get8 .result ≤ 2 ^ 64 - 2 = omega arith in
     let l : headerIn d ≤ length d = omega arith in
-    rw (← n .ensures, ← c .before .get82 .ensures)
-    (search (tests, length-extra d (c .before .before .before .before .before .before .before .pre .1) l))
+    rw (← found .get8 .ensures, ← c .before .get82 .ensures) (search (tests, length-extra d (start .pre .1) l))
 
 pub read-news-spec : {M : Type 1} → statement M
 read-news-spec =

@@ -1,3 +1,5 @@
+-- `fixed` meets its contract: arm by arm, how many bytes the fields of a type have, by the table's rows.
+-- Assumes nothing.
 use Prim.Native.Nat.{ℕ}
 use mathlib.Core.Path.{refl, sym}
 use mathlib.Core.List.{List, [], _∷_}

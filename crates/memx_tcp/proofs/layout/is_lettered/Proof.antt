@@ -1,3 +1,6 @@
+-- `is_lettered` meets its contract: arm by arm, the letters that a type may have, by the table's rows.
+-- Assumes nothing.
+use Prim.Native.Nat.{ℕ}
 use mathlib.Core.Path.{refl, sym}
 use mathlib.Core.List.{List, [], _∷_, map}
 use mathlib.Core.Bool.{Bool}
@@ -38,8 +41,8 @@ returns-6 : tie.Need-returns-6
 unfolding fieldsOf each valuesOf
 returns-6 c =
     let p = c .before .args .p in
-    sym (otherwise (λ r. passed p (r .fields)) ((100 ∷ []) ∷ (9 ∷ []) ∷ (6 ∷ []) ∷ (2 ∷ []) ∷ (1 ∷ []) ∷ []) refl (λ kind. refl) (p .kind)
-    (c .match .rest))
+    let arms : List (List ℕ) = (100 ∷ []) ∷ (9 ∷ []) ∷ (6 ∷ []) ∷ (2 ∷ []) ∷ (1 ∷ []) ∷ [] in
+    sym (otherwise (λ r. passed p (r .fields)) arms refl (λ kind. refl) (p .kind) (c .match .rest))
 
 pub is-lettered-spec : {M : Type 1} → statement M
 is-lettered-spec =

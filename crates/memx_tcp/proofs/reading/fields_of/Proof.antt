@@ -13,6 +13,9 @@ use borrow.Author.Needs.{needs}
 use Rattle.memx_tcp.proofs.reading.fields_of.Statement.{statement}
 use Rattle.memx_tcp.proofs.reading.fields_of.Tie as tie
 
+-- The match finds a type by the keys of its arm, and what holds of each of them holds of the type: how many bytes its fields have (`Has`),
+-- and what they say of the packet (`Says`). In each need m is the place of the match.
+
 shared-slice-read-kind : tie.Need-shared-slice-read-kind
 shared-slice-read-kind c = search needs
 
@@ -68,13 +71,13 @@ get4-requires-3 c κs =
 
 get8-requires-6 : tie.Need-get8-requires-6
 get8-requires-6 c κs =
-    let h = by-keys (Has 20) (101 ∷ []) (kindIn (now (c .before .before .before .before .args .d))) (has .10, tt)
-    (c .before .match .keys7) in omega arith
+    let m = c .before in
+    let h = by-keys (Has 20) (101 ∷ []) (kindIn (now (m .before .before .before .args .d))) (has .10, tt) (m .match .keys7) in omega arith
 
 get8-requires-7 : tie.Need-get8-requires-7
 get8-requires-7 c κs =
-    let h = by-keys (Has 20) (101 ∷ []) (kindIn (now (c .before .before .before .before .before .args .d))) (has .10, tt)
-    (c .before .before .match .keys7) in omega arith
+    let m = c .before .before in
+    let h = by-keys (Has 20) (101 ∷ []) (kindIn (now (m .before .before .before .args .d))) (has .10, tt) (m .match .keys7) in omega arith
 
 fields-requires-6 : tie.Need-fields-requires-6
 fields-requires-6 c κs = search needs
@@ -85,8 +88,8 @@ get8-requires-8 c κs =
 
 get8-requires-9 : tie.Need-get8-requires-9
 get8-requires-9 c κs =
-    let h = by-keys (Has 16) (103 ∷ []) (kindIn (now (c .before .before .before .before .args .d))) (has .12, tt)
-    (c .before .match .keys8) in omega arith
+    let m = c .before in
+    let h = by-keys (Has 16) (103 ∷ []) (kindIn (now (m .before .before .before .args .d))) (has .12, tt) (m .match .keys8) in omega arith
 
 fields-requires-7 : tie.Need-fields-requires-7
 fields-requires-7 c κs = search needs
@@ -118,10 +121,11 @@ returns c =
 
 returns-2 : tie.Need-returns-2
 returns-2 c =
-    let s = now (c .before .before .before .before .before .before .args .d) in
+    let m = c .before .before .before in
+    let s = now (m .before .before .before .args .d) in
     rw (c .fields2 .ensures, c .before .get82 .ensures, c .before .before .get4 .ensures)
     (by-keys (λ k. Says s (fields k 0 (second s 4) 0 (first s 8) 0) k) (5 ∷ []) (kindIn s) (places.says-replay-begin s, tt)
-    (c .before .before .before .match .keys3))
+    (m .match .keys3))
 
 returns-3 : tie.Need-returns-3
 returns-3 c =
@@ -131,10 +135,11 @@ returns-3 c =
 
 returns-4 : tie.Need-returns-4
 returns-4 c =
-    let s = now (c .before .before .before .before .before .before .args .d) in
+    let m = c .before .before .before in
+    let s = now (m .before .before .before .args .d) in
     rw (c .fields4 .ensures, c .before .get84 .ensures, c .before .before .get83 .ensures)
     (by-keys (λ k. Says s (fields k 0 0 0 (first s 8) (second s 8)) k) (8 ∷ []) (kindIn s) (places.says-stream-begin s, tt)
-    (c .before .before .before .match .keys5))
+    (m .match .keys5))
 
 returns-5 : tie.Need-returns-5
 returns-5 c =
@@ -145,17 +150,19 @@ returns-5 c =
 
 returns-6 : tie.Need-returns-6
 returns-6 c =
-    let s = now (c .before .before .before .before .before .before .before .args .d) in
+    let m = c .before .before .before .before in
+    let s = now (m .before .before .before .args .d) in
     rw (c .fields6 .ensures, c .before .get87 .ensures, c .before .before .get86 .ensures, c .before .before .before .get43 .ensures)
     (by-keys (λ k. Says s (fields k 0 (third s 4) (first s 8) (second s 8) 0) k) (101 ∷ []) (kindIn s) (places.says-replay s, tt)
-    (c .before .before .before .before .match .keys7))
+    (m .match .keys7))
 
 returns-7 : tie.Need-returns-7
 returns-7 c =
-    let s = now (c .before .before .before .before .before .before .args .d) in
+    let m = c .before .before .before in
+    let s = now (m .before .before .before .args .d) in
     rw (c .fields7 .ensures, c .before .get89 .ensures, c .before .before .get88 .ensures)
     (by-keys (λ k. Says s (fields k 0 0 (first s 8) (second s 8) 0) k) (103 ∷ []) (kindIn s) (places.says-stream s, tt)
-    (c .before .before .before .match .keys8))
+    (m .match .keys8))
 
 returns-8 : tie.Need-returns-8
 returns-8 c =

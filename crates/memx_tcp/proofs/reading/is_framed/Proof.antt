@@ -1,3 +1,5 @@
+-- `is_framed` meets its contract: the stated length is what follows, and what the type may carry.
+-- Assumes nothing.
 use Prim.Native.Nat.{ℕ, _-_}
 use denote.Ref.{now}
 use native.Mathlib.Omega.{arith}
@@ -29,19 +31,20 @@ returns-2 c =
 
 returns-3 : tie.Need-returns-3
 returns-3 c =
-    let s = now (c .before .before .before .before .before .args .d) in
+    let start = c .before .before .before .before .before in
+    let s = now (start .args .d) in
     let g = c .before .before .get2 .ensures in
-    let f = c .before .before .before .before .before .pre .0 in
+    let f = start .pre .0 in
     cut-short s (omega arith) (omega arith)
 
 returns-4 : tie.Need-returns-4
 returns-4 c =
-    let a = c .before .before .before .before .before .args in
-    let s = now (a .d) in
+    let start = c .before .before .before .before .before in
+    let s = now (start .args .d) in
     let g = c .before .before .get2 .ensures in
-    let f = c .before .before .before .before .before .pre .0 in
-    let n : ℕ = length s - 3 - a .fixed in
-    rw (c .before .before .before .before .before .pre .1) (followed s n (omega arith) (omega arith))
+    let f = start .pre .0 in
+    let n : ℕ = length s - 3 - start .args .fixed in
+    rw (start .pre .1) (followed s n (omega arith) (omega arith))
 
 pub is-framed-spec : {M : Type 1} → statement M
 is-framed-spec =

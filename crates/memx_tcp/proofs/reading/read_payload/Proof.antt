@@ -19,6 +19,8 @@ use borrow.Author.Needs.{needs}
 use Rattle.memx_tcp.proofs.reading.read_payload.Statement.{statement}
 use Rattle.memx_tcp.proofs.reading.read_payload.Tie as tie
 
+-- A type with a payload has no fields (`bare`), so that of the checks only those of its length are left.
+
 -- a type with a payload has nothing else
 abbrev Bare : ℕ → Type 0
 Bare k = (known k ≡ true) × (fieldsOf k ≡ []) × (mostOf k ≡ 65535)
@@ -72,8 +74,9 @@ fields-requires c κs = search needs
 
 returns-3 : tie.Need-returns-3
 returns-3 c =
-    let s = now (c .before .before .before .before .before .before .args .d) in
-    let p = c .before .before .before .before .before .before .pre in
+    let start = c .before .before .before .before .before .before in
+    let s = now (start .args .d) in
+    let p = start .pre in
     let g = c .before .before .before .get2 .ensures in
     rw (c .fields .ensures) (takes s (p .0) (p .1) (p .2) (length s - 3) (omega arith) refl)
 

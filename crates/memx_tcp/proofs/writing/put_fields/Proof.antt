@@ -13,6 +13,9 @@ use borrow.Author.Needs.{needs}
 use Rattle.memx_tcp.proofs.writing.put_fields.Statement.{statement}
 use Rattle.memx_tcp.proofs.writing.put_fields.Tie as tie
 
+-- The match finds a type by the keys of its arm, and what holds of each of them holds of the type: how many bytes its fields have (`Has`),
+-- and that the stores of the arm lay them out (`Lays`). In each need m is the place of the match.
+
 put8-requires : tie.Need-put8-requires
 put8-requires c κs =
     let h = by-keys (Has 8) (3 ∷ 102 ∷ []) (c .before .before .before .args .p .kind) (has .2, (has .11, tt)) (c .before .match .keys2) in
@@ -25,8 +28,8 @@ put8-requires-2 c κs =
 
 put4-requires : tie.Need-put4-requires
 put4-requires c κs =
-    let h = by-keys (Has 12) (5 ∷ []) (c .before .before .before .before .before .before .before .args .p .kind) (has .3, tt)
-    (c .before .before .before .before .before .match .keys3) in
+    let m = c .before .before .before .before .before in
+    let h = by-keys (Has 12) (5 ∷ []) (m .before .before .args .p .kind) (has .3, tt) (m .match .keys3) in
     omega arith
 
 put4-requires-2 : tie.Need-put4-requires-2
@@ -41,8 +44,8 @@ put8-requires-3 c κs =
 
 put8-requires-4 : tie.Need-put8-requires-4
 put8-requires-4 c κs =
-    let h = by-keys (Has 16) (8 ∷ []) (c .before .before .before .before .before .before .before .args .p .kind) (has .6, tt)
-    (c .before .before .before .before .before .match .keys5) in
+    let m = c .before .before .before .before .before in
+    let h = by-keys (Has 16) (8 ∷ []) (m .before .before .args .p .kind) (has .6, tt) (m .match .keys5) in
     omega arith
 
 put8-requires-5 : tie.Need-put8-requires-5
@@ -57,15 +60,14 @@ put8-requires-6 c κs =
 
 put8-requires-7 : tie.Need-put8-requires-7
 put8-requires-7 c κs =
-    let h = by-keys (Has 20) (101 ∷ []) (c .before .before .before .before .before .before .before .args .p .kind) (has .10, tt)
-    (c .before .before .before .before .before .match .keys7) in
+    let m = c .before .before .before .before .before in
+    let h = by-keys (Has 20) (101 ∷ []) (m .before .before .args .p .kind) (has .10, tt) (m .match .keys7) in
     omega arith
 
 put4-requires-3 : tie.Need-put4-requires-3
 put4-requires-3 c κs =
-    let h = by-keys (Has 20) (101 ∷ [])
-    (c .before .before .before .before .before .before .before .before .before .before .before .args .p .kind) (has .10, tt)
-    (c .before .before .before .before .before .before .before .before .before .match .keys7) in
+    let m = c .before .before .before .before .before .before .before .before .before in
+    let h = by-keys (Has 20) (101 ∷ []) (m .before .before .args .p .kind) (has .10, tt) (m .match .keys7) in
     omega arith
 
 put8-requires-8 : tie.Need-put8-requires-8
@@ -75,8 +77,8 @@ put8-requires-8 c κs =
 
 put8-requires-9 : tie.Need-put8-requires-9
 put8-requires-9 c κs =
-    let h = by-keys (Has 16) (103 ∷ []) (c .before .before .before .before .before .before .before .args .p .kind) (has .12, tt)
-    (c .before .before .before .before .before .match .keys8) in
+    let m = c .before .before .before .before .before in
+    let h = by-keys (Has 16) (103 ∷ []) (m .before .before .args .p .kind) (has .12, tt) (m .match .keys8) in
     omega arith
 
 -- a type with a letter, which the match finds in two ways
@@ -97,12 +99,12 @@ same-length c = search needs
 returns : tie.Need-returns
 unfolding valuesOf
 returns c =
-    let a = c .before .before .before .before .before .before .args in
-    let out = now (a .out) in
-    let p = a .p in
+    let m = c .before .before .before .before in
+    let out = now (m .before .before .args .out) in
+    let p = m .before .before .args .p in
     rw (c .before .before .put8 .ensures)
     (by-keys (Lays out p (one out p 8 (p .session .0))) (3 ∷ 102 ∷ []) (p .kind) (lays-session out p .0, (lays-session out p .1, tt))
-    (c .before .before .before .before .match .keys2))
+    (m .match .keys2))
 
 same-length-2 : tie.Need-same-length-2
 same-length-2 c = search needs
@@ -110,12 +112,12 @@ same-length-2 c = search needs
 returns-2 : tie.Need-returns-2
 unfolding valuesOf
 returns-2 c =
-    let a = c .before .before .before .before .before .before .before .before .before .before .args in
-    let out = now (a .out) in
-    let p = a .p in
-    rw (c .before .before .put4 .ensures, c .before .before .before .before .before .before .put82 .ensures)
-    (by-keys (Lays out p (two out p (p .number .0) 4 (p .count))) (5 ∷ []) (p .kind) (lays-replay-begin out p, tt)
-    (c .before .before .before .before .before .before .before .before .match .keys3))
+    let first = c .before .before .before .before .before .before in
+    let m = first .before .before in
+    let out = now (m .before .before .args .out) in
+    let p = m .before .before .args .p in
+    rw (c .before .before .put4 .ensures, first .put82 .ensures)
+    (by-keys (Lays out p (two out p (p .number .0) 4 (p .count))) (5 ∷ []) (p .kind) (lays-replay-begin out p, tt) (m .match .keys3))
 
 same-length-3 : tie.Need-same-length-3
 same-length-3 c = search needs
@@ -123,11 +125,11 @@ same-length-3 c = search needs
 returns-3 : tie.Need-returns-3
 unfolding valuesOf
 returns-3 c =
-    let a = c .before .before .before .before .before .before .args in
-    let out = now (a .out) in
-    let p = a .p in
-    rw (c .before .before .put42 .ensures) (by-keys (Lays out p (one out p 4 (p .count))) (7 ∷ []) (p .kind) (lays-count out p, tt)
-    (c .before .before .before .before .match .keys4))
+    let m = c .before .before .before .before in
+    let out = now (m .before .before .args .out) in
+    let p = m .before .before .args .p in
+    rw (c .before .before .put42 .ensures)
+    (by-keys (Lays out p (one out p 4 (p .count))) (7 ∷ []) (p .kind) (lays-count out p, tt) (m .match .keys4))
 
 same-length-4 : tie.Need-same-length-4
 same-length-4 c = search needs
@@ -135,12 +137,12 @@ same-length-4 c = search needs
 returns-4 : tie.Need-returns-4
 unfolding valuesOf
 returns-4 c =
-    let a = c .before .before .before .before .before .before .before .before .before .before .args in
-    let out = now (a .out) in
-    let p = a .p in
-    rw (c .before .before .put84 .ensures, c .before .before .before .before .before .before .put83 .ensures)
-    (by-keys (Lays out p (two out p (p .number .0) 8 (p .top .0))) (8 ∷ []) (p .kind) (lays-stream-begin out p, tt)
-    (c .before .before .before .before .before .before .before .before .match .keys5))
+    let first = c .before .before .before .before .before .before in
+    let m = first .before .before in
+    let out = now (m .before .before .args .out) in
+    let p = m .before .before .args .p in
+    rw (c .before .before .put84 .ensures, first .put83 .ensures)
+    (by-keys (Lays out p (two out p (p .number .0) 8 (p .top .0))) (8 ∷ []) (p .kind) (lays-stream-begin out p, tt) (m .match .keys5))
 
 same-length-5 : tie.Need-same-length-5
 same-length-5 c = search needs
@@ -148,11 +150,11 @@ same-length-5 c = search needs
 returns-5 : tie.Need-returns-5
 unfolding valuesOf
 returns-5 c =
-    let a = c .before .before .before .before .before .before .args in
-    let out = now (a .out) in
-    let p = a .p in
-    rw (c .before .before .put85 .ensures) (by-keys (Lays out p (one out p 8 (p .number .0))) (10 ∷ []) (p .kind) (lays-total out p, tt)
-    (c .before .before .before .before .match .keys6))
+    let m = c .before .before .before .before in
+    let out = now (m .before .before .args .out) in
+    let p = m .before .before .args .p in
+    rw (c .before .before .put85 .ensures)
+    (by-keys (Lays out p (one out p 8 (p .number .0))) (10 ∷ []) (p .kind) (lays-total out p, tt) (m .match .keys6))
 
 same-length-6 : tie.Need-same-length-6
 same-length-6 c = search needs
@@ -160,16 +162,14 @@ same-length-6 c = search needs
 returns-6 : tie.Need-returns-6
 unfolding valuesOf
 returns-6 c =
-    let a = c .before .before .before .before .before .before .before .before .before .before .before .before .before .before .args in
-    let out = now (a .out) in
-    let p = a .p in
-    rw (
-      c .before .before .put43 .ensures,
-      c .before .before .before .before .before .before .put87 .ensures,
-      c .before .before .before .before .before .before .before .before .before .before .put86 .ensures,
-    )
+    let second = c .before .before .before .before .before .before in
+    let first = second .before .before .before .before in
+    let m = first .before .before in
+    let out = now (m .before .before .args .out) in
+    let p = m .before .before .args .p in
+    rw (c .before .before .put43 .ensures, second .put87 .ensures, first .put86 .ensures)
     (by-keys (Lays out p (three out p (p .session .0) (p .number .0) 4 (p .count))) (101 ∷ []) (p .kind) (lays-replay out p, tt)
-    (c .before .before .before .before .before .before .before .before .before .before .before .before .match .keys7))
+    (m .match .keys7))
 
 same-length-7 : tie.Need-same-length-7
 same-length-7 c = search needs
@@ -177,12 +177,12 @@ same-length-7 c = search needs
 returns-7 : tie.Need-returns-7
 unfolding valuesOf
 returns-7 c =
-    let a = c .before .before .before .before .before .before .before .before .before .before .args in
-    let out = now (a .out) in
-    let p = a .p in
-    rw (c .before .before .put89 .ensures, c .before .before .before .before .before .before .put88 .ensures)
-    (by-keys (Lays out p (two out p (p .session .0) 8 (p .number .0))) (103 ∷ []) (p .kind) (lays-stream out p, tt)
-    (c .before .before .before .before .before .before .before .before .match .keys8))
+    let first = c .before .before .before .before .before .before in
+    let m = first .before .before in
+    let out = now (m .before .before .args .out) in
+    let p = m .before .before .args .p in
+    rw (c .before .before .put89 .ensures, first .put88 .ensures)
+    (by-keys (Lays out p (two out p (p .session .0) 8 (p .number .0))) (103 ∷ []) (p .kind) (lays-stream out p, tt) (m .match .keys8))
 
 returns-8 : tie.Need-returns-8
 unfolding valuesOf

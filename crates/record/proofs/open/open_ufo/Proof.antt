@@ -1,3 +1,5 @@
+-- `open_ufo` meets its contract: 5, then 6, and then a fresh record.
+-- Assumes nothing.
 use borrow.Author.Needs.{needs}
 use Rattle.wire.proofs.Tests.{held, failed}
 use Rattle.record.proofs.open.open_ufo.Statement.{statement}

@@ -1,3 +1,5 @@
+-- `standing_of` meets its contract: 10; then the count of ranges, and whether an end was taken, decide.
+-- Assumes nothing.
 use Prim.Native.Nat.{_+_}
 use mathlib.Core.Bool.{true}
 use mathlib.Core.Path.{_≡_}
@@ -30,26 +32,27 @@ count-requires c κs = search needs
 returns-2 : tie.Need-returns-2
 unfolding standing
 returns-2 c =
-    rw (
-      hung (c .before .before .before .before .before .before .before .before .before),
-      le-leb _ _
-          (c .before .before .before .before .if2 .taken),
-      ← c .before .before .count .ensures,
-      ← c .before .before .before .at .ensures,
-    )
+    let counted = c .before .before in
+    let lacks = counted .before .before in
+    let g = lacks .before .before .before .before .before in
+    rw (hung g, le-leb _ _ (lacks .if2 .taken), ← counted .count .ensures, ← counted .before .at .ensures)
 
 returns-3 : tie.Need-returns-3
 unfolding standing
 returns-3 c =
-    let g = c .before .before .before .before .before .before in
+    let none = c .before in
+    let g = none .before .before .before .before .before in
     let r = g .before .before .args .kept in
     let h = hanging r (hung g) in
     let s : r .next .0 ≡ r .top .0 + 1 = omega arith in
-    rw (hung g, lt-leb _ _ (c .before .if2 .left), c .if3 .taken, eq-eqb _ _ s)
+    rw (hung g, lt-leb _ _ (none .if2 .left), c .if3 .taken, eq-eqb _ _ s)
 
 returns-4 : tie.Need-returns-4
 unfolding standing
-returns-4 c = rw (hung (c .before .before .before .before .before .before), lt-leb _ _ (c .before .if2 .left), c .if3 .left)
+returns-4 c =
+    let none = c .before in
+    let g = none .before .before .before .before .before in
+    rw (hung g, lt-leb _ _ (none .if2 .left), c .if3 .left)
 
 pub standing-of-spec : {M : Type 1} → statement M
 standing-of-spec =

@@ -1,3 +1,5 @@
+-- `is_unbroken` meets its contract: no linefeed so far, and none in what is left.
+-- Assumes nothing.
 use Prim.Native.Nat.{_-_}
 use mathlib.Core.Path.{_≡_, refl, _∙_}
 use mathlib.Core.Bool.{_&&_}

@@ -1,3 +1,5 @@
+-- `line_fault` meets its contract: 4 if the last byte is no linefeed, then 8 for one before it.
+-- Assumes nothing.
 use mathlib.Core.Path.{sym}
 use native.Mathlib.Omega.{arith}
 use lib.Seq.{length-take-le}

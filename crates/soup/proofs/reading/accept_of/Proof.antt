@@ -1,6 +1,5 @@
-use Prim.Native.Nat.{ℕ}
+-- `accept_of` looks at the session's padding, and then goes by what the number came to, as `accept-together` says. Assumes nothing.
 use mathlib.Core.Path.{_≡_}
-use mathlib.Core.List.{List}
 use denote.Ref.{now}
 use borrow.Author.Needs.{needs}
 use Rattle.wire.proofs.Tests.{held, failed}
@@ -20,8 +19,7 @@ returns c =
     let a = b .before .before .before in
     rw (
       accept-together (now (a .args .session)) (now (a .args .digits)) (a .pre .1),
-      failed (b .is-spaces-then-text .ensures)
-          (c .if1 .taken),
+      failed (b .is-spaces-then-text .ensures) (c .if1 .taken),
     )
 
 is-blank-requires : tie.Need-is-blank-requires
@@ -30,19 +28,15 @@ is-blank-requires c κs = search needs
 read-requires : tie.Need-read-requires
 read-requires c κs = search needs
 
-abbrev session-of : tie.After-read → List ℕ
-session-of c = now (c .before .before .before .before .before .before .args .session)
-
-abbrev digits-of : tie.After-read → List ℕ
-digits-of c = now (c .before .before .before .before .before .before .args .digits)
-
--- the session is padded as it should be, and the number was told as n
-told-as : (c : tie.After-read) (n : Number) → c .read .result ≡ n → acceptOf (session-of c) (digits-of c) ≡ acceptBy (session-of c) n
-told-as c n e =
+-- the session is padded as it should be, and the number was read as n
+read-as : (c : tie.After-read) (n : Number) → c .read .result ≡ n → let i = c .before .before in
+    let a = i .before .before .before .before .args in
+    acceptOf (now (a .session)) (now (a .digits)) ≡ acceptBy (now (a .session)) n
+read-as c n e =
     let i = c .before .before in
-    let l = i .before .before .before .before .pre .1 in
+    let s = i .before .before .before .before in
     rw (
-      accept-together (session-of c) (digits-of c) l,
+      accept-together (now (s .args .session)) (now (s .args .digits)) (s .pre .1),
       held (i .before .is-spaces-then-text .ensures) (i .if1 .left),
       ← c .read .ensures,
       e,
@@ -60,7 +54,7 @@ enum-told-3 c = search needs
 returns-2 : tie.Need-returns-2
 returns-2 c =
     let r = c .before .before .before in
-    rw (told-as r Over (c .before .enum-told3 .given .1), ← r .before .is-blank .ensures, c .if2 .taken)
+    rw (read-as r Over (c .before .enum-told3 .given .1), ← r .before .is-blank .ensures, c .if2 .taken)
 
 enum-known-n : tie.Need-enum-known-n
 enum-known-n c = search needs
@@ -69,27 +63,27 @@ returns-3 : tie.Need-returns-3
 returns-3 c =
     let m = c .before .before in
     let r = m .before .before in
-    rw (told-as r (Is (m .n .given .0 .0)) (m .n .given .1), ← r .before .is-blank .ensures, c .if3 .taken)
+    rw (read-as r (Is (m .n .given .0 .0)) (m .n .given .1), ← r .before .is-blank .ensures, c .if3 .taken)
 
 get-name-requires : tie.Need-get-name-requires
 get-name-requires c κs = search needs
 
 returns-4 : tie.Need-returns-4
-returns-4 c = rw (told-as (c .before .before) Misshapen (c .enum-told .given .1))
+returns-4 c = rw (read-as (c .before .before) Misshapen (c .enum-told .given .1))
 
 returns-5 : tie.Need-returns-5
-returns-5 c = rw (told-as (c .before .before) Blank (c .enum-told2 .given .1))
+returns-5 c = rw (read-as (c .before .before) Blank (c .enum-told2 .given .1))
 
 returns-6 : tie.Need-returns-6
 returns-6 c =
     let r = c .before .before .before in
-    rw (told-as r Over (c .before .enum-told3 .given .1), ← r .before .is-blank .ensures, c .if2 .left)
+    rw (read-as r Over (c .before .enum-told3 .given .1), ← r .before .is-blank .ensures, c .if2 .left)
 
 returns-7 : tie.Need-returns-7
 returns-7 c =
     let m = c .before .before .before in
     let r = m .before .before in
-    rw (told-as r (Is (m .n .given .0 .0)) (m .n .given .1), ← r .before .is-blank .ensures, c .before .if3 .left, c .get-name .ensures)
+    rw (read-as r (Is (m .n .given .0 .0)) (m .n .given .1), ← r .before .is-blank .ensures, c .before .if3 .left, c .get-name .ensures)
 
 pub accept-of-spec : {M : Type 1} → statement M
 accept-of-spec =

@@ -1,13 +1,12 @@
+-- `login_of` looks at the texts' padding together, and then goes by what the number came to, as `login-together` says. Assumes nothing.
 use mathlib.Core.Path.{_≡_}
 use mathlib.Core.Bool.{Bool, _&&_}
 use denote.Ref.{now}
 use borrow.Author.Needs.{needs}
-use Rattle.wire.specs.Checks.{Verdict}
 use Rattle.wire.proofs.Tests.{held, failed}
 use Rattle.text.specs.Text.{textThenSpaces, spacesThenText}
 use Rattle.decimal.specs.declared.Number.{Number}
 use Rattle.decimal.specs.declared.Number.the-variants.{Misshapen, Blank, Over, Is}
-use Rattle.soup.specs.Packet.{Packet}
 use Rattle.soup.specs.Read.{loginOf}
 use Rattle.soup.proofs.Together.{loginBy, login-together}
 use Rattle.soup.proofs.reading.login_of.Statement.{statement}
@@ -43,8 +42,7 @@ returns c =
     let a = s .args in
     rw (
       login-together (now (a .user)) (now (a .password)) (now (a .session)) (now (a .digits)) (s .pre .3),
-      failed (same b)
-          (c .if1 .taken),
+      failed (same b) (c .if1 .taken),
     )
 
 is-blank-requires : tie.Need-is-blank-requires
@@ -53,27 +51,19 @@ is-blank-requires c κs = search needs
 read-requires : tie.Need-read-requires
 read-requires c κs = search needs
 
-abbrev login-of : tie.After-read → Verdict Packet
-login-of c =
-    let a = c .before .before .before .before .before .before .before .before .before .before .args in
+-- they are, and the number was read as n
+read-as : (c : tie.After-read) (n : Number) → c .read .result ≡ n → let b = c .before .before .before in
+    let a = b .before .before .before .before .before .before .before .args in
     loginOf (now (a .user)) (now (a .password)) (now (a .session)) (now (a .digits))
-
-abbrev login-by : tie.After-read → Number → Verdict Packet
-login-by c n =
-    let a = c .before .before .before .before .before .before .before .before .before .before .args in
-    loginBy (now (a .user)) (now (a .password)) (now (a .session)) n
-
--- they are, and the number was told as n
-told-as : (c : tie.After-read) (n : Number) → c .read .result ≡ n → login-of c ≡ login-by c n
-told-as c n e =
+    ≡ loginBy (now (a .user)) (now (a .password)) (now (a .session)) n
+read-as c n e =
     let i = c .before .before in
     let b = i .before in
     let s = b .before .before .before .before .before .before .before in
     let a = s .args in
     rw (
       login-together (now (a .user)) (now (a .password)) (now (a .session)) (now (a .digits)) (s .pre .3),
-      held (same b)
-          (i .if1 .left),
+      held (same b) (i .if1 .left),
       ← c .read .ensures,
       e,
     )
@@ -90,7 +80,7 @@ enum-told-3 c = search needs
 returns-2 : tie.Need-returns-2
 returns-2 c =
     let r = c .before .before .before in
-    rw (told-as r Over (c .before .enum-told3 .given .1), ← r .before .is-blank .ensures, c .if2 .taken)
+    rw (read-as r Over (c .before .enum-told3 .given .1), ← r .before .is-blank .ensures, c .if2 .taken)
 
 enum-known-n : tie.Need-enum-known-n
 enum-known-n c = search needs
@@ -99,7 +89,7 @@ returns-3 : tie.Need-returns-3
 returns-3 c =
     let m = c .before .before in
     let r = m .before .before in
-    rw (told-as r (Is (m .n .given .0 .0)) (m .n .given .1), ← r .before .is-blank .ensures, c .if3 .taken)
+    rw (read-as r (Is (m .n .given .0 .0)) (m .n .given .1), ← r .before .is-blank .ensures, c .if3 .taken)
 
 get-user-requires : tie.Need-get-user-requires
 get-user-requires c κs = search needs
@@ -111,15 +101,15 @@ get-name-requires-2 : tie.Need-get-name-requires-2
 get-name-requires-2 c κs = search needs
 
 returns-4 : tie.Need-returns-4
-returns-4 c = rw (told-as (c .before .before) Misshapen (c .enum-told .given .1))
+returns-4 c = rw (read-as (c .before .before) Misshapen (c .enum-told .given .1))
 
 returns-5 : tie.Need-returns-5
-returns-5 c = rw (told-as (c .before .before) Blank (c .enum-told2 .given .1))
+returns-5 c = rw (read-as (c .before .before) Blank (c .enum-told2 .given .1))
 
 returns-6 : tie.Need-returns-6
 returns-6 c =
     let r = c .before .before .before in
-    rw (told-as r Over (c .before .enum-told3 .given .1), ← r .before .is-blank .ensures, c .if2 .left)
+    rw (read-as r Over (c .before .enum-told3 .given .1), ← r .before .is-blank .ensures, c .if2 .left)
 
 returns-7 : tie.Need-returns-7
 returns-7 c =
@@ -128,7 +118,7 @@ returns-7 c =
     let m = i .before .before in
     let r = m .before .before in
     rw (
-      told-as r (Is (m .n .given .0 .0)) (m .n .given .1),
+      read-as r (Is (m .n .given .0 .0)) (m .n .given .1),
       ← r .before .is-blank .ensures,
       i .if3 .left,
       u .get-user .ensures,

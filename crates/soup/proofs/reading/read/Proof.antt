@@ -1,3 +1,4 @@
+-- `read` goes by the type byte: each arm is what the definition says of its type, and the last one any other byte. Assumes nothing.
 use Prim.Native.Nat.{ℕ}
 use mathlib.Core.Path.{_≡_, refl}
 use mathlib.Core.List.{List}

@@ -1,3 +1,5 @@
+-- Each return is a case of `Gathers`: a linefeed is in reach, the piece ends first, or the packet runs over. The case is told by the
+-- search's answer and by how the branches went.
 use mathlib.Core.Path.{sym}
 use native.Mathlib.Omega.{arith}
 use denote.Ref.{now}
@@ -46,26 +48,28 @@ add-close-2 c = search needs
 
 close-requires : tie.Need-close-requires
 close-requires c κs =
-    let a = c .before .before .before .before .before .before .before .before .before .before in
+    let copied = c .before .before .before in
+    let found = copied .before .before in
+    let a = found .before .before .before .before .before in
     let b = now (a .args .buffer) in
     let p = now (a .args .piece) in
-    rw (c .before .before .before .copy .ensures) (found-line b p (a .args .kept) (a .args .from) (a .args .next .0) (a .pre .0) (a .pre .1)
-    (a .pre .2) (a .pre .3) _ _ (c .before .before .before .before .before .before .before .smaller .ensures)
-    (c .before .before .before .before .before .before .linefeed .ensures .0) (c .before .before .before .before .before .if1 .taken))
+    rw (copied .copy .ensures)
+    (found-line b p (a .args .kept) (a .args .from) (a .args .next .0) (a .pre .0) (a .pre .1) (a .pre .2) (a .pre .3) _ _
+    (found .before .before .smaller .ensures) (found .before .linefeed .ensures .0) (found .if1 .taken))
 
 same-length : tie.Need-same-length
 same-length c = search needs
 
 returns : tie.Need-returns
 returns c =
-    let a = c .before .before .before .before .before .before .before .before .before .before .before in
+    let copied = c .before .before .before .before in
+    let found = copied .before .before in
+    let a = found .before .before .before .before .before in
     let b = now (a .args .buffer) in
     let p = now (a .args .piece) in
-    rw (c .close .ensures, c .before .before .before .before .copy .ensures)
+    rw (c .close .ensures, copied .copy .ensures)
     (answers-line b p (a .args .kept) (a .args .from) (a .args .next .0) (a .pre .0) (a .pre .1) (a .pre .2) (a .pre .3) _ _
-    (c .before .before .before .before .before .before .before .before .smaller .ensures)
-    (c .before .before .before .before .before .before .before .linefeed .ensures .0)
-    (c .before .before .before .before .before .before .if1 .taken))
+    (found .before .before .smaller .ensures) (found .before .linefeed .ensures .0) (found .if1 .taken))
 
 copy-requires-2 : tie.Need-copy-requires-2
 copy-requires-2 c κs = search needs
@@ -78,14 +82,14 @@ same-length-2 c = search needs
 
 returns-2 : tie.Need-returns-2
 returns-2 c =
-    let a = c .before .before .before .before .before .before .before .before .before .before in
+    let copied = c .before .before .before in
+    let sought = copied .before .before in
+    let a = sought .before .before .before .before .before in
     let b = now (a .args .buffer) in
     let p = now (a .args .piece) in
-    rw (c .before .before .before .copy2 .ensures)
+    rw (copied .copy2 .ensures)
     (answers-end b p (a .args .kept) (a .args .from) (a .args .next .0) (a .pre .0) (a .pre .1) (a .pre .2) (a .pre .3) _ _
-    (c .before .before .before .before .before .before .before .smaller .ensures)
-    (c .before .before .before .before .before .before .linefeed .ensures .0) (c .before .before .before .before .before .if1 .left)
-    (c .if2 .taken))
+    (sought .before .before .smaller .ensures) (sought .before .linefeed .ensures .0) (sought .if1 .left) (c .if2 .taken))
 
 empty-requires : tie.Need-empty-requires
 empty-requires c κs = search needs
@@ -95,14 +99,14 @@ same-length-3 c = search needs
 
 returns-3 : tie.Need-returns-3
 returns-3 c =
-    let a = c .before .before .before .before .before .before .before .before .before .before .before in
+    let copied = c .before .before .before .before in
+    let sought = copied .before .before in
+    let a = sought .before .before .before .before .before in
     let b = now (a .args .buffer) in
     let p = now (a .args .piece) in
-    rw (c .empty .ensures, c .before .before .before .before .copy2 .ensures)
+    rw (c .empty .ensures, copied .copy2 .ensures)
     (answers-overlong b p (a .args .kept) (a .args .from) (a .args .next .0) (a .pre .0) (a .pre .1) (a .pre .2) (a .pre .3) _ _
-    (c .before .before .before .before .before .before .before .before .smaller .ensures)
-    (c .before .before .before .before .before .before .before .linefeed .ensures .0)
-    (c .before .before .before .before .before .before .if1 .left) (c .before .if2 .left))
+    (sought .before .before .smaller .ensures) (sought .before .linefeed .ensures .0) (sought .if1 .left) (c .before .if2 .left))
 
 pub gather-spec : {M : Type 1} → statement M
 gather-spec =

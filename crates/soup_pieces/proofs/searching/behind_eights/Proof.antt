@@ -1,3 +1,5 @@
+-- `behind_eights` meets its contract: eight bytes at a time, no linefeed lies behind.
+-- Assumes nothing.
 use Prim.Native.Nat.{_≤_, _-_}
 use mathlib.Core.Path.{_≡_}
 use mathlib.Core.Bool.{true}

@@ -1,3 +1,5 @@
+-- `bitmap` is safe and ends: it has as many turns as there are slots.
+-- Assumes nothing.
 use native.Mathlib.Omega.{arith}
 use borrow.Author.Needs.{needs}
 use Rattle.specimens.proofs.area.bitmap.Statement.{statement}

@@ -1,3 +1,5 @@
+-- `changes` is safe and ends: it goes slot by slot up to the one behind the last.
+-- Assumes nothing.
 use Prim.Native.Nat.{_-_}
 use native.Mathlib.Omega.{arith}
 use borrow.Author.Needs.{needs}

@@ -1,3 +1,5 @@
+-- `first_change` is safe and ends: a slot has so many places, one fewer at each turn.
+-- Assumes nothing.
 use native.Mathlib.Omega.{arith}
 use borrow.Author.Needs.{needs}
 use Rattle.specimens.proofs.area.first_change.Statement.{statement}

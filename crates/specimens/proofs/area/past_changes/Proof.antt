@@ -1,3 +1,5 @@
+-- `past_changes` is safe and ends: a slot has so many places, one fewer at each turn.
+-- Assumes nothing.
 use native.Mathlib.Omega.{arith}
 use borrow.Author.Needs.{needs}
 use Rattle.specimens.proofs.area.past_changes.Statement.{statement}

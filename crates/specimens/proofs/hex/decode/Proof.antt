@@ -1,5 +1,7 @@
+-- `decode` puts what the text spells: at each turn the bytes put so far, with what the rest of the text still spells, are that.
+-- Assumes nothing.
 use Prim.Native.Nat.{_+_, _-_, _≤_}
-use mathlib.Core.Path.{_≡_, refl, ap, sym, _∙_}
+use mathlib.Core.Path.{_≡_, refl, sym, _∙_}
 use mathlib.Core.List.{_++_}
 use denote.Ref.{now}
 use native.Mathlib.Omega.{arith}

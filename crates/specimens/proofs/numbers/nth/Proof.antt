@@ -1,3 +1,5 @@
+-- `nth` is safe and ends: so many numbers are left to pass over, one fewer at each turn.
+-- Assumes nothing.
 use native.Mathlib.Omega.{arith}
 use borrow.Author.Needs.{needs}
 use Rattle.specimens.proofs.numbers.nth.Statement.{statement}

@@ -1,3 +1,5 @@
+-- `number` is safe and ends: it goes byte by byte to where the number, or the text, ends.
+-- Assumes nothing.
 use Prim.Native.Nat.{_-_}
 use native.Mathlib.Omega.{arith}
 use borrow.Author.Needs.{needs}

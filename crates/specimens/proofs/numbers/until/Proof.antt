@@ -1,3 +1,5 @@
+-- `until` is safe and ends: it goes byte by byte to a place that belongs, or to the text's end.
+-- Assumes nothing.
 use Prim.Native.Nat.{_-_}
 use native.Mathlib.Omega.{arith}
 use borrow.Author.Needs.{needs}

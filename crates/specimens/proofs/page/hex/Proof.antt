@@ -1,3 +1,5 @@
+-- `hex` is safe and ends: each turn writes the byte at a place inside the slice, and the place moves on.
+-- Assumes nothing.
 use Prim.Native.Nat.{_-_}
 use native.Mathlib.Omega.{arith}
 use borrow.Author.Needs.{needs}

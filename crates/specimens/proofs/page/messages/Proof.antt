@@ -1,3 +1,5 @@
+-- `messages` is safe and ends: so many messages are left to tell, one fewer at each turn.
+-- Assumes nothing.
 use native.Mathlib.Omega.{arith}
 use borrow.Author.Needs.{needs}
 use Rattle.specimens.proofs.page.messages.Statement.{statement}

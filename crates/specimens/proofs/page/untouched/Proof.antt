@@ -1,3 +1,5 @@
+-- `untouched` is safe and ends: so many places are left to look at, one fewer at each turn.
+-- Assumes nothing.
 use native.Mathlib.Omega.{arith}
 use borrow.Author.Needs.{needs}
 use Rattle.specimens.proofs.page.untouched.Statement.{statement}

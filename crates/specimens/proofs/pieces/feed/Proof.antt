@@ -1,3 +1,5 @@
+-- `feed` is safe and ends: no piece hands out more often than it has bytes, and the buffer keeps its length.
+-- Assumes nothing.
 use mathlib.Core.Path.{_≡_, refl}
 use native.Mathlib.Omega.{arith}
 use borrow.Author.Needs.{needs}

@@ -1,3 +1,5 @@
+-- `feed_singly` is safe and ends: each turn feeds the byte at a place, and the buffer keeps its length.
+-- Assumes nothing.
 use Prim.Native.Nat.{_-_}
 use mathlib.Core.Path.{_≡_, refl}
 use native.Mathlib.Omega.{arith}

@@ -1,3 +1,5 @@
+-- `untouched` is safe and ends: it goes place by place to the buffer's end.
+-- Assumes nothing.
 use Prim.Native.Nat.{_-_}
 use native.Mathlib.Omega.{arith}
 use borrow.Author.Needs.{needs}

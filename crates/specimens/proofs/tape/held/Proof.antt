@@ -1,3 +1,5 @@
+-- `held` is safe and ends: it looks at the 31 numbers behind N, one by one.
+-- Assumes nothing.
 use Prim.Native.Nat.{_-_}
 use native.Mathlib.Omega.{arith}
 use borrow.Author.Needs.{needs}

@@ -1,3 +1,5 @@
+-- `missing` is safe and ends: so many ranges are left to tell, one fewer at each turn.
+-- Assumes nothing.
 use native.Mathlib.Omega.{arith}
 use borrow.Author.Needs.{needs}
 use Rattle.specimens.proofs.tape.missing.Statement.{statement}

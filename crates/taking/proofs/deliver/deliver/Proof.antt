@@ -11,28 +11,37 @@ use borrow.Author.Needs.{needs}
 use Rattle.taking.proofs.deliver.deliver.Statement.{statement}
 use Rattle.taking.proofs.deliver.deliver.Tie as tie
 
+-- Skipping refuses, releasing refuses, or both have room: then the packet's own blocks go before what was let go.
+abbrev start : tie.After-skip → tie.Start
+start c = c .before .before .before .before
+
+abbrev skipped : tie.After-known-told2 → tie.After-skip
+skipped c = c .before .before .before
+
 -- the place that skipping reached
-place-so : (c : tie.After-known-told2) → let a = c .before .before .before .before .before .before .before .args in
-    let q = c .before .start2 .given .0 .0 in (placeAfter (a .k) (now (a .datagram)) (a .place) ≡ taken q)
-    × (q ≤ length (now (a .datagram)))
-place-so c =
-    let a = c .before .before .before .before .before .before .before .args in
+place-so : (c : tie.After-known-told2) → let a = start (skipped c) .args in
     let q = c .before .start2 .given .0 .0 in
-    let e = reached (placeAfter (a .k) (now (a .datagram)) (a .place)) q
-    (sym (c .before .before .before .skip .ensures) ∙ c .before .start2 .given .1) in
+    (placeAfter (a .k) (now (a .datagram)) (a .place) ≡ taken q) × (q ≤ length (now (a .datagram)))
+place-so c =
+    let a = start (skipped c) .args in
+    let q = c .before .start2 .given .0 .0 in
+    let e = reached (placeAfter (a .k) (now (a .datagram)) (a .place)) q (sym (skipped c .skip .ensures) ∙ c .before .start2 .given .1) in
     (e, place-inside (a .k) (now (a .datagram)) (a .place) q e)
 
 -- what was let go fits behind the packet's own
-fits-so : (c : tie.After-known-told4) → let a =
-    c .before .before .before .before .before .before .before .before .before .before .before .before .before .before .args in
-    let own = length (now (a .datagram)) - c .before .before .before .before .before .before .before .before .start2 .given .0 .0 in
+fits-so : (c : tie.After-known-told4) → let let-go = c .before .before .before .before .before in
+    let k = let-go .before .before in
+    let a = start (skipped k) .args in
+    let own = length (now (a .datagram)) - k .before .start2 .given .0 .0 in
     (own + c .before .given2 .given .0 .1 .0 ≤ length (now (a .out)))
-    × (length (c .before .before .before .before .before .release .last .1 .1 .1 .0) ≡ length (now (a .out)))
+    × (length (let-go .release .last .1 .1 .1 .0) ≡ length (now (a .out)))
 fits-so c =
-    let a = c .before .before .before .before .before .before .before .before .before .before .before .before .before .before .args in
-    let own = length (now (a .datagram)) - c .before .before .before .before .before .before .before .before .start2 .given .0 .0 in
-    let-fits (a .held) (now (a .area)) (a .number) own (now (a .out)) (c .before .given2 .given .0 .0) (c .before .given2 .given .0 .1 .0) _
-    (rw (c .before .given2 .given .1) at (c .before .before .before .before .before .release .ensures))
+    let let-go = c .before .before .before .before .before in
+    let k = let-go .before .before in
+    let a = start (skipped k) .args in
+    let own = length (now (a .datagram)) - k .before .start2 .given .0 .0 in
+    let g = c .before .given2 .given in
+    let-fits (a .held) (now (a .area)) (a .number) own (now (a .out)) (g .0 .0) (g .0 .1 .0) _ (rw (g .1) at (let-go .release .ensures))
 
 skip-requires : tie.Need-skip-requires
 skip-requires c κs = search needs
@@ -57,8 +66,8 @@ enum-known-given-2 c = search needs
 
 copy-requires : tie.Need-copy-requires
 copy-requires c κs =
-    let k = c .before .before .before .before .before .before .before .before in
-    let w = place-so k .1 in
+    let let-go = c .before .before .before .before .before .before in
+    let w = place-so (let-go .before .before) .1 in
     let f = fits-so (c .before) in
     (omega (arith, f .0, f .1), omega arith)
 
@@ -69,29 +78,33 @@ add-t24 c =
 
 returns : tie.Need-returns
 returns c =
-    let a = c .before .before .before .before .before .before .before .args in
+    let s = c .before .before .before in
+    let a = start s .args in
     hands-none (a .k) (now (a .datagram)) (a .place) (a .held) (now (a .area)) (a .number) (now (a .out)) _
-    (sym (c .before .before .before .skip .ensures) ∙ c .before .start .given .1)
+    (sym (s .skip .ensures) ∙ c .before .start .given .1)
 
 same-length : tie.Need-same-length
 same-length c = search needs
 
 returns-2 : tie.Need-returns-2
 returns-2 c =
-    let k = c .before .before .before .before .before .before .before in
-    let a = k .before .before .before .before .before .before .before .args in
+    let let-go = c .before .before .before .before .before in
+    let k = let-go .before .before in
+    let a = start (skipped k) .args in
     hands-back (a .k) (now (a .datagram)) (a .place) (a .held) (now (a .area)) (a .number) (now (a .out)) _ (place-so k .0) _ _
-    (rw (c .before .given .given .1) at (c .before .before .before .before .before .release .ensures))
+    (rw (c .before .given .given .1) at (let-go .release .ensures))
 
 same-length-2 : tie.Need-same-length-2
 same-length-2 c = search needs
 
 returns-3 : tie.Need-returns-3
 returns-3 c =
-    let k = c .before .before .before .before .before .before .before .before .before .before .before in
-    let a = k .before .before .before .before .before .before .before .args in
+    let told = c .before .before .before .before in
+    let let-go = told .before .before .before .before .before in
+    let k = let-go .before .before in
+    let a = start (skipped k) .args in
     hands-over (a .k) (now (a .datagram)) (a .place) (a .held) (now (a .area)) (a .number) (now (a .out)) _ (place-so k .0) _ _ _ _
-    (rw (c .before .before .before .before .before .given2 .given .1) at (c .before .before .before .before .before .before .before .before .before .release .ensures)) (c .before .before .copy .ensures)
+    (rw (told .before .given2 .given .1) at (let-go .release .ensures)) (c .before .before .copy .ensures)
 
 pub deliver-spec : {M : Type 1} → statement M
 deliver-spec =

@@ -1,3 +1,5 @@
+-- `hold_each` meets its contract: the blocks tried so far, with those that are left, are all the packet's.
+-- Assumes nothing.
 use Prim.Native.Nat.{_+_, _-_, _≤_}
 use mathlib.Core.Path.{_≡_, refl, ap, sym, _∙_}
 use mathlib.Core.Bool.{true}
@@ -17,20 +19,20 @@ use Rattle.taking.proofs.early.hold_each.Tie as tie
 abbrev Inv-loop : tie.InvT-loop
 Inv-loop held next first count area₀ datagram place kept₀ at₀ number₀ left₀ area kept at number left =
     (left ≤ count) × (number ≡ first + (count - left)) × (length area ≡ length area₀) × (fills datagram at left ≡ true)
-    × (holdAll next (record { held = held; area = area₀ }) first (blocksFrom datagram place count) ≡ holdAll next
-    (record { held = kept; area = area }) number (blocksFrom datagram at left))
+    × (holdAll next (record { held = held; area = area₀ }) first (blocksFrom datagram place count)
+    ≡ holdAll next (record { held = kept; area = area }) number (blocksFrom datagram at left))
 
 abbrev μ-loop : tie.MeasureT-loop
 μ-loop held next first count area₀ datagram place kept₀ at₀ number₀ left₀ area kept at number left = left
 
--- the block that a turn finds
-finds-at : (c : tie.After-known-told Inv-loop μ-loop) → let g = c .before .start .given in
-    Found (now (c .before .before .before .before .before .before .before .before .args .datagram))
-    (c .before .before .before .before .before .loop .at) (g .0 .0) (g .0 .1 .0) (g .0 .1 .1 .0)
-finds-at c =
+-- Each turn holds the block that it finds, under its number; those that are left are still to be held. A turn that has found one:
+finds-at : (c : tie.After-known-told Inv-loop μ-loop) → let t = c .before .before .before .before in
     let g = c .before .start .given in
-    finds (now (c .before .before .before .before .before .before .before .before .args .datagram))
-    (c .before .before .before .before .before .loop .at) (g .0 .0) (g .0 .1 .0) (g .0 .1 .1 .0)
+    Found (now (t .before .before .before .before .args .datagram)) (t .before .loop .at) (g .0 .0) (g .0 .1 .0) (g .0 .1 .1 .0)
+finds-at c =
+    let t = c .before .before .before .before in
+    let g = c .before .start .given in
+    finds (now (t .before .before .before .before .args .datagram)) (t .before .loop .at) (g .0 .0) (g .0 .1 .0) (g .0 .1 .1 .0)
     (sym (c .before .before .before .next .ensures) ∙ g .1)
 
 loop-holds : tie.Need-loop-holds Inv-loop μ-loop
@@ -56,14 +58,10 @@ hold-requires c κs = search needs
 
 add-number : tie.Need-add-number Inv-loop μ-loop
 add-number c =
-    let l = c .before .before .before .before .before .before .before .before .before .before .loop in
-    omega (
-      arith,
-      l .inv .0,
-      l .inv .1,
-      c .before .before .before .before .before .before .before .before .before .loop-test .taken,
-      c .before .before .before .before .before .before .before .before .before .before .before .before .before .pre .bound,
-    )
+    let k = c .before .before .before .before .before in
+    let t = k .before .before .before .before in
+    let l = t .before .loop in
+    omega (arith, l .inv .0, l .inv .1, t .loop-test .taken, t .before .before .before .before .pre .bound)
 
 sub-left : tie.Need-sub-left Inv-loop μ-loop
 sub-left c = search needs
@@ -74,18 +72,20 @@ loop-less c = search needs
 loop-again : tie.Need-loop-again Inv-loop μ-loop
 loop-again c =
     let k = c .before .before .before .before .before in
-    let l = k .before .before .before .before .before .loop in
-    let a = k .before .before .before .before .before .before .before .before .args in
+    let t = k .before .before .before .before in
+    let l = t .before .loop in
+    let a = t .before .before .before .before .args in
     let h : Holding = record { held = l .kept; area = l .area } in
     let d = now (a .datagram) in
     let f = finds-at k in
-    let t = tried d (a .next) h (l .number) (l .at) (l .left) (k .before .before .before .before .loop-test .taken) (l .inv .3) in
+    let some = t .loop-test .taken in
+    let u = tried d (a .next) h (l .number) (l .at) (l .left) some (l .inv .3) in
     let e = c .before .before .hold .ensures in (
       omega (arith, l .inv .0),
-      omega (arith, l .inv .0, l .inv .1, k .before .before .before .before .loop-test .taken),
+      omega (arith, l .inv .0, l .inv .1, some),
       ap length (e .bytes) ∙ one-long (a .next) h (l .number) _ ∙ l .inv .2,
-      rw (f .ends) (t .others),
-      l .inv .4 ∙ t .goes-on ∙ rw (e .bitmap, e .bytes, f .same, f .ends),
+      rw (f .ends) (u .others),
+      l .inv .4 ∙ u .goes-on ∙ rw (e .bitmap, e .bytes, f .same, f .ends),
     )
 
 enum-told : tie.Need-enum-told Inv-loop μ-loop
@@ -96,12 +96,13 @@ same-length c = c .before .before .before .before .loop .inv .2
 
 returns : tie.Need-returns Inv-loop μ-loop
 returns c =
-    let l = c .before .before .before .before .loop in
-    let a = c .before .before .before .before .before .before .before .args in
+    let t = c .before .before .before in
+    let l = t .before .loop in
+    let a = t .before .before .before .before .args in
     let m = missed (now (a .datagram)) (l .at) _ (sym (c .before .before .next .ensures) ∙ c .enum-told .given .1) in
     let h : Holding = record { held = l .kept; area = l .area } in
-    let t = tried (now (a .datagram)) (a .next) h (l .number) (l .at) (l .left) (c .before .before .before .loop-test .taken) (l .inv .3) in
-    absurd (omega (arith, m .1, t .inside))
+    let u = tried (now (a .datagram)) (a .next) h (l .number) (l .at) (l .left) (t .loop-test .taken) (l .inv .3) in
+    absurd (omega (arith, m .1, u .inside))
 
 same-length-2 : tie.Need-same-length-2 Inv-loop μ-loop
 same-length-2 c = c .before .loop .inv .2

@@ -1,20 +1,14 @@
-use mathlib.Core.Path.{_≡_, sym, _∙_}
+-- `hold_early` meets its contract: 12; else the messages are tried one by one, and the record notes what is held.
+-- Assumes nothing.
+use mathlib.Core.Path.{sym, _∙_}
 use denote.Ref.{now}
-use lib.ListN.{length}
-use Rattle.wire.specs.Fields.{Bytes}
-use Rattle.reports.specs.Reports.{blocksFrom}
-use Rattle.taking.proofs.HandingOver.{counted}
 use Rattle.taking.proofs.Trying.{early-clash, early-kept}
 use borrow.Author.Needs.{needs}
 use Rattle.taking.proofs.early.hold_early.Statement.{statement}
 use Rattle.taking.proofs.early.hold_early.Tie as tie
 
-many : (c : tie.After-contradicts) → let a = c .before .before .before .before .args in
-    length (blocksFrom (now (a .datagram)) (a .place) (a .count)) ≡ a .count
-many c =
-    let a = c .before .before .before .before .args in
-    let b : Bytes (now (a .datagram)) = λ i. c .before .before .shared-slice-known .given i .fits in
-    counted (now (a .datagram)) (a .place) (a .first) (a .count) b (c .before .before .before .before .pre .1)
+abbrev start : tie.After-contradicts → tie.Start
+start c = c .before .before .before .before
 
 add-past : tie.Need-add-past
 add-past c = search needs
@@ -28,10 +22,10 @@ contradicts-requires c κs = search needs
 returns : tie.Need-returns
 returns c =
     let g = c .before in
-    let a = g .before .before .before .before .args in
-    let p = g .before .before .before .before .pre in
-    early-clash (a .kept) (now (a .area)) (a .first) (a .count) (blocksFrom (now (a .datagram)) (a .place) (a .count)) (many g) (p .0)
-    (p .2) (sym (g .contradicts .ensures) ∙ c .if1 .taken)
+    let a = start g .args in
+    let p = start g .pre in
+    early-clash (a .kept) (now (a .area)) (now (a .datagram)) (a .place) (a .first) (a .count) (p .1) (p .0) (p .2)
+    (sym (g .contradicts .ensures) ∙ c .if1 .taken)
 
 hold-each-requires : tie.Need-hold-each-requires
 hold-each-requires c κs = search needs
@@ -47,12 +41,13 @@ same-length c = search needs
 
 returns-2 : tie.Need-returns-2
 returns-2 c =
-    let g = c .before .before .before .before .before .before in
-    let a = g .before .before .before .before .args in
-    let p = g .before .before .before .before .pre in
-    rw (c .tell .ensures) (early-kept (a .kept) (now (a .area)) (a .first) (a .count) (blocksFrom (now (a .datagram)) (a .place) (a .count))
-    (many g) (p .0) (p .2) _ _ (sym (g .contradicts .ensures) ∙ c .before .before .before .before .before .if1 .left)
-    (c .before .before .before .hold-each .ensures))
+    let agrees = c .before .before .before .before .before in
+    let g = agrees .before in
+    let a = start g .args in
+    let p = start g .pre in
+    rw (c .tell .ensures)
+    (early-kept (a .kept) (now (a .area)) (now (a .datagram)) (a .place) (a .first) (a .count) (p .1) (p .0) (p .2) _ _
+    (sym (g .contradicts .ensures) ∙ agrees .if1 .left) (c .before .before .before .hold-each .ensures))
 
 pub hold-early-spec : {M : Type 1} → statement M
 hold-early-spec =

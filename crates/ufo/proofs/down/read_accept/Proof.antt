@@ -1,3 +1,5 @@
+-- `read_accept` meets its contract: its checks in their order.
+-- Assumes nothing.
 use borrow.Author.Tests.{not-true, not-false}
 use Rattle.wire.proofs.Tests.{tests}
 use Rattle.ufo.specs.Down.{readA}

@@ -1,3 +1,5 @@
+-- `read_down` meets its contract: 1, 2, then the reader of the type, or 3.
+-- Assumes nothing.
 use Rattle.wire.proofs.Tests.{tests}
 use Rattle.ufo.specs.Down.{read}
 use borrow.Author.Needs.{needs}

@@ -1,3 +1,5 @@
+-- `read_messages` meets its contract: its checks in their order, the walk over the blocks among them.
+-- Assumes nothing.
 use Prim.Native.Nat.{_+_, _<_, _≤_}
 use mathlib.Core.Path.{_≡_, _∙_}
 use mathlib.Core.Bool.{true}
@@ -77,8 +79,7 @@ returns-5 c =
       ← g .ensures,
       ne-eqb (g .result) 0 (c .before .if3 .left),
       ← n .ensures,
-      le-leb
-          (g .result + n .result) 4294967295 h,
+      le-leb (g .result + n .result) 4294967295 h,
       count-cut (n .result) (drop 7 d) (rw (n .ensures) w),
     )
 

@@ -1,3 +1,5 @@
+-- `find_message` meets its contract: from block to block the walk comes to the place, or past it.
+-- Assumes nothing.
 use Prim.Native.Nat.{_-_, _<_}
 use mathlib.Core.Path.{sym, _∙_}
 use denote.Ref.{now}

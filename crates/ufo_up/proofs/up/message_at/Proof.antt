@@ -13,22 +13,28 @@ use borrow.Author.Needs.{needs}
 use Rattle.ufo_up.proofs.up.message_at.Statement.{statement}
 use Rattle.ufo_up.proofs.up.message_at.Tie as tie
 
+-- The block at the place is found once (`finds-at`); then what the reader of the message's type answers is the answer (`answered`).
+
+-- where the call began, told from where the block is known
+abbrev began : tie.After-known-told2 → tie.Start
+began c = c .before .before .before .before .before
+
 -- the block that was found
-finds-at : (c : tie.After-known-told2) → let g = c .before .start .given in let a = c .before .before .before .before .before .args in
+finds-at : (c : tie.After-known-told2) → let g = c .before .start .given in let a = began c .args in
     Found (now (a .d)) (a .place) (g .0 .0) (g .0 .1 .0) (g .0 .1 .1 .0)
 finds-at c =
     let g = c .before .start .given in
-    let a = c .before .before .before .before .before .args in
+    let a = began c .args in
     finds (now (a .d)) (a .place) (g .0 .0) (g .0 .1 .0) (g .0 .1 .1 .0) (sym (c .before .before .before .next .ensures) ∙ g .1)
 
 -- what the reader of its type answers is the answer
-answered : (c : tie.Else1) → let g = c .before .before .start .given in let a = c .before .before .before .before .before .before .args in
+answered : (c : tie.Else1) → let g = c .before .before .start .given in let a = began (c .before) .args in
     (r : Up) (v : Verdict Message) → r ≡ upOf (g .0 .1 .1 .0) v
     → readMessage (take (g .0 .1 .1 .0 - g .0 .0) (drop (g .0 .0) (now (a .d)))) ≡ v
     → r ≡ upOf (endAt (now (a .d)) (a .place)) (messageAt (now (a .d)) (a .place))
 answered c r v e q =
     let g = c .before .before .start .given in
-    let a = c .before .before .before .before .before .before .args in
+    let a = began (c .before) .args in
     answers (now (a .d)) (a .place) (g .0 .0) (g .0 .1 .0) (g .0 .1 .1 .0) (finds-at (c .before)) r v (c .if1 .left) e q
 
 next-requires : tie.Need-next-requires
@@ -43,7 +49,7 @@ enum-known-start c = search needs
 returns : tie.Need-returns
 returns c =
     let g = c .before .before .start .given in
-    let a = c .before .before .before .before .before .before .args in
+    let a = began (c .before) .args in
     empty-at (now (a .d)) (a .place) (g .0 .0) (g .0 .1 .0) (g .0 .1 .1 .0) (finds-at (c .before)) (c .if1 .taken)
 
 sub-m : tie.Need-sub-m
@@ -88,12 +94,12 @@ returns-5 : tie.Need-returns-5
 returns-5 c = answered (c .before .before .before .before) _ _ (c .read-u .ensures) (of-kind _ 85 (c .before .match2 .keys3))
 
 returns-6 : tie.Need-returns-6
-returns-6 c = answered (c .before .before .before .before) _ _ (c .alone .ensures ∙ alone _ heartbeat _)
-    (of-kind _ 82 (c .before .match2 .keys4))
+returns-6 c =
+    answered (c .before .before .before .before) _ _ (c .alone .ensures ∙ alone _ heartbeat _) (of-kind _ 82 (c .before .match2 .keys4))
 
 returns-7 : tie.Need-returns-7
-returns-7 c = answered (c .before .before .before .before) _ _ (c .alone2 .ensures ∙ alone _ logout _)
-    (of-kind _ 79 (c .before .match2 .keys5))
+returns-7 c =
+    answered (c .before .before .before .before) _ _ (c .alone2 .ensures ∙ alone _ logout _) (of-kind _ 79 (c .before .match2 .keys5))
 
 returns-8 : tie.Need-returns-8
 returns-8 c =

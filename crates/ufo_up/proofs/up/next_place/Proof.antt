@@ -1,3 +1,5 @@
+-- `next_place` meets its contract: of each message that was read, the place behind it.
+-- Assumes nothing.
 use borrow.Author.Needs.{needs}
 use Rattle.ufo_up.proofs.up.next_place.Statement.{statement}
 use Rattle.ufo_up.proofs.up.next_place.Tie as tie

@@ -1,3 +1,5 @@
+-- `read_each` meets its contract: the messages read so far are all taken, and the first that is refused decides.
+-- Assumes nothing.
 use Prim.Native.Nat.{_+_, _-_, _<_}
 use mathlib.Core.Path.{_∙_, ap, sym}
 use denote.Ref.{now}
@@ -22,9 +24,10 @@ whole c =
     framed (now (c .before .args .d)) (λ i. c .shared-slice-known .given i .fits) (c .before .pre .0) (omega (arith, c .before .pre .1))
 
 -- a turn that went on
-onward : (c : tie.After-known-told Inv-loop μ-loop) → let l = c .before .before .before .before .before .before .loop in
-    let n = c .before .next .given .0 .0 in Reached (now (c .before .before .before .before .before .before .before .before .args .d)) n
-    (l .count + 1) × (l .at < n)
+onward : (c : tie.After-known-told Inv-loop μ-loop) → let i = c .before .before .before .before in
+    let l = i .before .before .loop in
+    let n = c .before .next .given .0 .0 in
+    Reached (now (i .before .before .before .before .args .d)) n (l .count + 1) × (l .at < n)
 onward c =
     let i = c .before .before .before .before in
     let l = i .before .before .loop in
@@ -46,7 +49,7 @@ enum-known-next : tie.Need-enum-known-next Inv-loop μ-loop
 enum-known-next c = search needs
 
 add-count : tie.Need-add-count Inv-loop μ-loop
-add-count c = omega (arith, c .before .before .before .before .before .before .loop .inv .few)
+add-count c = let i = c .before .before .before .before in omega (arith, i .before .before .loop .inv .few)
 
 loop-less : tie.Need-loop-less Inv-loop μ-loop
 loop-less c = let h = onward c .1 in omega arith
@@ -63,8 +66,8 @@ returns c =
     let l = i .before .before .loop in
     let s = i .before .before .before in
     let e = ap nextOf (sym (i .message-at .ensures)) ∙ sym (c .before .before .before .next-place .ensures) ∙ c .before .n .given .1 in
-    reached-stop (now (s .before .args .d)) (l .at) (l .count) (whole s) (l .inv) (i .before .loop-test .taken) (c .before .n .given .0 .0)
-    e
+    reached-stop (now (s .before .args .d)) (l .at) (l .count) (whole s) (l .inv) (i .before .loop-test .taken)
+    (c .before .n .given .0 .0) e
 
 returns-2 : tie.Need-returns-2 Inv-loop μ-loop
 returns-2 c =

@@ -3,13 +3,14 @@ use mathlib.Core.Path.{_≡_}
 use mathlib.Core.List.{List}
 use mathlib.Core.Bool.{true}
 use denote.Ref.{now}
-use borrow.Author.Tests.{not-true, not-false}
-use Rattle.wire.proofs.Tests.{tests, held}
+use Rattle.wire.proofs.Tests.{tests, held, failed}
 use Rattle.text.specs.Text.{textThenSpaces}
 use Rattle.ufo_up.specs.Up.{userL, passwordL, sessionL, readL}
 use borrow.Author.Needs.{needs}
 use Rattle.ufo_up.proofs.up.read_l.Statement.{statement}
 use Rattle.ufo_up.proofs.up.read_l.Tie as tie
+
+-- Each test that failed refuses, and those before it are passed: the texts one by one, then, with all three padded, the user.
 
 returns : tie.Need-returns
 unfolding readL
@@ -29,8 +30,7 @@ is-text-then-spaces-requires c κs = search needs
 
 returns-2 : tie.Need-returns-2
 unfolding readL
-returns-2 c =
-    rw (← c .before .is-text-then-spaces .ensures, not-true (c .before .is-text-then-spaces .result) (c .if2 .taken)) (search tests)
+returns-2 c = rw (failed (c .before .is-text-then-spaces .ensures) (c .if2 .taken)) (search tests)
 
 sub-password : tie.Need-sub-password
 sub-password c = search needs
@@ -49,13 +49,9 @@ unfolding readL
 returns-3 c =
     let b = c .before .before .before in
     rw (
-      ← b .before .is-text-then-spaces .ensures,
-      not-false (b .before .is-text-then-spaces .result)
-          (b .if2 .left),
-      ← c .before .is-text-then-spaces2 .ensures,
-      not-true (c .before .is-text-then-spaces2 .result) (c .if3 .taken),
-    )
-    (search tests)
+      held (b .before .is-text-then-spaces .ensures) (b .if2 .left),
+      failed (c .before .is-text-then-spaces2 .ensures) (c .if3 .taken),
+    ) (search tests)
 
 sub-session : tie.Need-sub-session
 sub-session c = search needs
@@ -75,21 +71,20 @@ returns-4 c =
     let b = c .before .before .before in
     let a = b .before .before .before in
     rw (
-      ← a .before .is-text-then-spaces .ensures,
-      not-false (a .before .is-text-then-spaces .result)
-          (a .if2 .left),
-      ← b .before .is-text-then-spaces2 .ensures,
-      not-false (b .before .is-text-then-spaces2 .result) (b .if3 .left),
-      ← c .before .is-text-then-spaces3 .ensures,
-      not-true (c .before .is-text-then-spaces3 .result) (c .if4 .taken),
+      held (a .before .is-text-then-spaces .ensures) (a .if2 .left),
+      held (b .before .is-text-then-spaces2 .ensures) (b .if3 .left),
+      failed (c .before .is-text-then-spaces3 .ensures) (c .if4 .taken),
     ) (search tests)
 
 abbrev message : tie.Else4 → List ℕ
-message c = now (c .before .before .before .before .before .before .before .before .before .before .before .args .m)
+message c =
+    let b = c .before .before .before in
+    let a = b .before .before .before in
+    now (a .before .before .before .before .before .args .m)
 
 -- the three texts are padded as they should be
-padded : (c : tie.Else4) → let m = message c in (textThenSpaces (userL m) ≡ true) × (textThenSpaces (passwordL m) ≡ true)
-    × (textThenSpaces (sessionL m) ≡ true)
+padded : (c : tie.Else4) → let m = message c in
+    (textThenSpaces (userL m) ≡ true) × (textThenSpaces (passwordL m) ≡ true) × (textThenSpaces (sessionL m) ≡ true)
 padded c =
     let b = c .before .before .before in
     let a = b .before .before .before in (

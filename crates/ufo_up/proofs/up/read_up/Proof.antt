@@ -1,3 +1,5 @@
+-- `read_up` meets its contract: 1, 2 and the block lengths over the whole packet, then each message in turn.
+-- Assumes nothing.
 use mathlib.Core.Path.{_≡_, ap, sym, _∙_}
 use mathlib.Core.Bool.{true}
 use denote.Ref.{now}
@@ -11,11 +13,12 @@ use Rattle.ufo_up.proofs.up.read_up.Statement.{statement}
 use Rattle.ufo_up.proofs.up.read_up.Tie as tie
 
 -- the blocks were counted, so they are whole
-whole : (c : tie.After-enum-told) → isWhole (upstream (now (c .before .before .before .before .before .before .args .d))) ≡ true
+whole : (c : tie.After-enum-told) → let s = c .before .before in
+    isWhole (upstream (now (s .before .before .before .before .args .d))) ≡ true
 whole c =
+    let s = c .before .before in
     let g = c .enum-told .given in
-    whole-count (upstream (now (c .before .before .before .before .before .before .args .d))) (g .0 .0)
-    (sym (c .before .before .count-upstream .ensures) ∙ g .1)
+    whole-count (upstream (now (s .before .before .before .before .args .d))) (g .0 .0) (sym (s .count-upstream .ensures) ∙ g .1)
 
 returns : tie.Need-returns
 unfolding readUp

@@ -1,3 +1,5 @@
+-- `get2` meets its contract: two bytes, the first one weighed.
+-- Assumes nothing.
 use denote.Ref.{now}
 use native.Mathlib.Omega.{arith}
 use Rattle.wire.proofs.Width.{be-two}

@@ -1,3 +1,5 @@
+-- `get4` meets its contract: two fields of two bytes, by the law of a field's two halves.
+-- Assumes nothing.
 use denote.Ref.{now}
 use lib.ListN.{drop}
 use lib.Seq.{drop-drop}

@@ -1,3 +1,5 @@
+-- `get8` meets its contract: two fields of four bytes, by the law of a field's two halves.
+-- Assumes nothing.
 use denote.Ref.{now}
 use lib.ListN.{drop}
 use lib.Seq.{drop-drop}

@@ -1,3 +1,5 @@
+-- `copy` meets its contract: the kit's copy, told of the part of the output from a place on.
+-- Assumes nothing.
 use denote.Ref.{now}
 use native.Mathlib.Omega.{arith}
 use Rattle.wire.proofs.Settling.{copied}

@@ -1,4 +1,4 @@
--- What a report delivers and what of it is held, by how its numbers lie to N, and what is known of one that was taken.
+-- A report has messages from N on, comes early, or brings nothing new: what of it is delivered, and what is held.
 -- Assumes nothing.
 use Prim.Native.Nat.{ℕ, _+_, _-_, _≤_, _<_}
 use mathlib.Core.List.{List, [], _∷_}
@@ -6,13 +6,12 @@ use mathlib.Core.Path.{_≡_, refl, ap}
 use mathlib.Core.Bool.{Bool, true, false, not, _&&_, and-false}
 use native.Mathlib.Nat.{add-zero}
 use native.Mathlib.Omega.{arith}
-use borrow.Author.Tests.{le-leb, lt-leb, leb-true, leb-false, not-true}
+use borrow.Author.Tests.{le-leb, lt-leb, leb-true, leb-false}
 use lib.Dec.{leb}
 use lib.ListN.{length, drop, length-append}
 use lib.Seq.{drop-nil}
 use Rattle.wire.specs.Checks.{taken, _else_, checked}
 use Rattle.wire.proofs.Tests.{by-test}
-use Rattle.wire.proofs.Checks.{all-passed, passed-all}
 use Rattle.blocks.specs.Blocks.{frames}
 use Rattle.held.specs.Slots.{freedFrom}
 use Rattle.held.specs.Holding.{Holding, holdAll}
@@ -23,9 +22,8 @@ use Rattle.record.specs.Record.{hangs}
 use Rattle.record.specs.declared.Record.{Record}
 use Rattle.record.proofs.Hanging.{hanging}
 use Rattle.reports.specs.Reports.{Report, messages, news, end, topOf, isEnd}
-use Rattle.taking.specs.Taking.{clash, contradicts, own, delivered, holdingEarly, holding, told, Taking, outcome, reportChecks}
-use Rattle.taking.specs.Taking.{reporting, takenOf, Answered}
-use Rattle.taking.specs.Handing.{passing}
+use Rattle.taking.specs.Taking.{clash, own, delivered, holdingEarly, holding, told, reporting, takenOf, Answered}
+use Rattle.taking.specs.Ways.{passing}
 use Rattle.taking.specs.declared.Taken.{Taken}
 
 -- the first number is at most N and the last at least N
@@ -42,14 +40,14 @@ late next first ms s a =
     rw (lt-leb next (first + length ms - 1) (omega arith), and-false (leb first next))
 
 -- of an early packet the messages are held; of any other, none
-pub early-held : (next first : ℕ) (ms : List (List ℕ)) → next < first → (h : Holding) → holdingEarly next h (messages first ms) ≡ holdAll
-    next h first ms
+pub early-held : (next first : ℕ) (ms : List (List ℕ)) → next < first → (h : Holding)
+    → holdingEarly next h (messages first ms) ≡ holdAll next h first ms
 early-held next first ms a h = rw (lt-leb first next a)
 
 pub none-held : (next first : ℕ) (ms : List (List ℕ)) → first ≤ next → (h : Holding) → holdingEarly next h (messages first ms) ≡ h
 none-held next first ms a h = rw (le-leb first next a)
 
--- every report has messages from N on, or comes early, or passes
+-- every report has messages from N on, or comes early, or brings nothing new
 pub data Lies (next : ℕ) : Report → Type 0 where
   reaches : (first : ℕ) (ms : List (List ℕ)) → first ≤ next → next < first + length ms → Lies next (messages first ms)
   ahead : (first : ℕ) (ms : List (List ℕ)) → next < first → Lies next (messages first ms)
@@ -93,8 +91,8 @@ module _ (r : Record) (area : List ℕ) (report : Report) (h : hangs r ≡ true)
   holds-early = rw delivers-none
 
   -- and a report of which nothing is held either is passed
-  pub reports-none : (room : ℕ) → ((h : Holding) → holdingEarly (r .next .0) h report ≡ h) → reporting r area room report ≡ passing r area
-      (topOf report) (isEnd report)
+  pub reports-none : (room : ℕ) → ((h : Holding) → holdingEarly (r .next .0) h report ≡ h)
+      → reporting r area room report ≡ passing r area (topOf report) (isEnd report)
   unfolding reporting passing frames freedFrom
   reports-none room k = rw (delivers-none, k (record { held = r .held; area = area }), le-leb 0 room (omega arith), add-zero (r .next .0))
 
@@ -108,35 +106,15 @@ reports-early r area room first ms h l =
     rw (
       delivers-none r area (messages first ms) h (early (r .next .0) first ms l),
       lt-leb first (r .next .0) l,
-      le-leb 0 room
-          (omega arith),
+      le-leb 0 room (omega arith),
       add-zero (r .next .0),
     )
 
--- and leaves the lent output
-pub leaves : (r : Record) (area : List ℕ) (top : ℕ) (final : Bool) (out : List ℕ) (a : Taken) → a ≡ takenOf (passing r area top final)
+-- what is passed leaves the lent output and the area, and its answer does not depend on them
+pub leaves : (r : Record) (area : List ℕ) (top : ℕ) (final : Bool) (out : List ℕ) (a : Taken) → a ≡ takenOf (passing r [] top final)
     → Answered (passing r area top final) area out a area out
 unfolding passing frames
 leaves r area top final out a e =
-    by-test (clash r top final) (λ q. record { answer = e; bytes = rw q; slots = rw q })
-    (λ q. record { answer = e; bytes = rw q; slots = rw q })
-
--- what is known of a report that was taken
-pub record Reported (r : Record) (area : List ℕ) (room : ℕ) (report : Report) (t : Taking) : Type 0 where
-  pub agrees : contradicts r report ≡ false
-  pub fits : length (frames (delivered r area report)) ≤ room
-  pub gives : t ≡ outcome r area report
-
-pub reported : (r : Record) (area : List ℕ) (room : ℕ) (report : Report) (t : Taking) → reporting r area room report ≡ taken t
-    → Reported r area room report t
-unfolding reporting
-reported r area room report t e =
-    let p = all-passed (reportChecks r area room report) (taken (outcome r area report)) t e in
-    record { agrees = not-true (contradicts r report) (p .0 .0); fits = leb-true _ _ (p .0 .1 .0); gives = cc (p .1) }
-
--- and what is enough for it
-pub reports : (r : Record) (area : List ℕ) (room : ℕ) (report : Report) → contradicts r report ≡ false
-    → length (frames (delivered r area report)) ≤ room → reporting r area room report ≡ taken (outcome r area report)
-unfolding reporting
-reports r area room report a b = passed-all (reportChecks r area room report) (taken (outcome r area report))
-    (rw a refl, (le-leb _ _ b, tt))
+    by-test (clash r top final)
+    (λ q. let g = rw q at e in rw q (record { answer = g; bytes = refl; slots = refl }))
+    (λ q. let g = rw q at e in rw q (record { answer = g; bytes = refl; slots = refl }))

@@ -1,12 +1,12 @@
-// Whether what is handed from call to call hangs together.
+// Whether what is handed from call to call hangs together, so that the next call can go on from it.
 use crate::Pieces;
 use soup::line;
 use soup::line::is_unbroken;
 ghost use mathlib.Core.Path.{_≡_};
-ghost use Rattle.soup_pieces.specs.Taking.{hangs};
+ghost use Rattle.soup_pieces.specs.Eating.{ready};
 
-pub(crate) fn hangs_together(pieces: Pieces, buffer: &[u8]) -> bool
-    ensures { λ r. ⌜ r ≡ hangs pieces (now (buffer .entry)) ⌝ }
+pub(crate) fn is_ready(pieces: Pieces, buffer: &[u8]) -> bool
+    ensures { λ r. ⌜ r ≡ ready pieces (now (buffer .entry)) ⌝ }
 {
     let kept = pieces.kept;
     if buffer.len() < line::LONGEST {

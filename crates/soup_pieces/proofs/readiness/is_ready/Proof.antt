@@ -3,9 +3,9 @@ use native.Mathlib.Omega.{arith}
 use denote.Ref.{now}
 use borrow.Author.Needs.{needs}
 use lib.Seq.{length-take-le}
-use Rattle.soup_pieces.proofs.Hangs.{too-short, too-many, by-rest}
-use Rattle.soup_pieces.proofs.hanging.hangs_together.Statement.{statement}
-use Rattle.soup_pieces.proofs.hanging.hangs_together.Tie as tie
+use Rattle.soup_pieces.proofs.Ready.{too-short, too-many, by-rest}
+use Rattle.soup_pieces.proofs.readiness.is_ready.Statement.{statement}
+use Rattle.soup_pieces.proofs.readiness.is_ready.Tie as tie
 
 returns : tie.Need-returns
 returns c = too-short _ _ (c .if1 .taken)
@@ -25,8 +25,9 @@ is-unbroken-requires : tie.Need-is-unbroken-requires
 is-unbroken-requires c κs = search needs
 
 returns-4 : tie.Need-returns-4
-returns-4 c = by-rest _ _ _ (c .before .before .before .before .if1 .left) (c .before .before .before .if2 .left)
-    (rw (c .before .before .if3 .left) (c .is-unbroken .ensures))
+returns-4 c =
+    let at = c .before .before in
+    by-rest _ _ _ (at .before .before .if1 .left) (at .before .if2 .left) (rw (at .if3 .left) (c .is-unbroken .ensures))
 
-pub hangs-together-spec : {M : Type 1} → statement M
-hangs-together-spec = tie.close (tie.spec returns returns-2 returns-3 slice-aggregate-is-unbroken is-unbroken-requires returns-4)
+pub is-ready-spec : {M : Type 1} → statement M
+is-ready-spec = tie.close (tie.spec returns returns-2 returns-3 slice-aggregate-is-unbroken is-unbroken-requires returns-4)

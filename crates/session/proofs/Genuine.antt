@@ -24,7 +24,7 @@ use Rattle.record.specs.Record.{hangs}
 use Rattle.record.specs.declared.Record.{Record}
 use Rattle.reports.specs.Reports.{Report, messages, news, end, topOf, isEnd}
 use Rattle.taking.specs.Taking.{contradicts, own, delivered, holding, after}
-use Rattle.taking.proofs.Reports.{lies, among, delivers-many}
+use Rattle.taking.proofs.EarlyOrLate.{lies, among, delivers-many}
 use Rattle.taking.proofs.Kept.{near-after, placed-after, kept-sound}
 use Rattle.taking.proofs.Numbered.{is-held, Holds, Came, brought, was-held, by-number, holds-as-number}
 use Rattle.session.proofs.Stretches.{joined}
@@ -135,8 +135,8 @@ module _ (log : List (List ℕ)) (over : Bool) (r : Record) (area : List ℕ) (g
       flags (r .ended) (isEnd p) (topOf p) (r .top .0) (λ e. omega (arith, h .final e .1, g .inside))
       (λ e. omega (arith, g .final e .1, h .known))
 
-  told-final : r .ended || isEnd p ≡ true → (over ≡ true) × (max (r .top .0) (topOf p) ≡ length log)
-  told-final e = by (either (r .ended) (isEnd p) e) where
+  final-after : r .ended || isEnd p ≡ true → (over ≡ true) × (max (r .top .0) (topOf p) ≡ length log)
+  final-after e = by (either (r .ended) (isEnd p) e) where
     by : (r .ended ≡ true) ⊎ (isEnd p ≡ true) → (over ≡ true) × (max (r .top .0) (topOf p) ≡ length log)
     by (inl a) = (h .final a .0, omega (arith, h .final a .1, top-is p (g .start), g .inside))
     by (inr b) = (g .final b .0, omega (arith, g .final b .1, h .known))
@@ -173,7 +173,7 @@ module _ (log : List (List ℕ)) (over : Bool) (r : Record) (area : List ℕ) (g
       near = omega (arith, near-after r area whole p);
       known = known-after;
       old = omega (arith, h .old);
-      final = told-final;
+      final = final-after;
       placed = placed-after r area whole p (lies (r .next .0) p);
       sound = kept-sound r area whole p (h .sound);
       sent = λ n e. came n (heldMessage (holding r area p .area) n) (holds-as-number r area whole (h .sound) n p e);

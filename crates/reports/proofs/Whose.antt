@@ -1,26 +1,19 @@
--- What is reported is the record's own: in MEMX style of its session, in UFO style an `S` or an `E`. And a name opens a record exactly if
--- it is lawful in `A`.
+-- Whose packets are reported. In MEMX style a packet names its session, and only the record's own is reported. In UFO style an `S` or an
+-- `E` is, and names none: what comes is reported to whatever record it is fed to, so one line must feed one record: the desk's duty.
 -- Assumes nothing.
 use Prim.Native.Nat.{ℕ}
 use mathlib.Core.Path.{_≡_, refl}
-use mathlib.Core.Bool.{not}
 use mathlib.Core.List.{List, [], _∷_}
-use mathlib.Core.Logic.{_⊎_, inl, inr, _↔_}
-use native.Mathlib.Omega.{arith}
+use mathlib.Core.Logic.{_⊎_, inl, inr}
 use borrow.Author.Tests.{eqb-true}
 use Rattle.wire.specs.Checks.{_is_, refused, taken, _else_}
 use Rattle.wire.specs.declared.kinds.Name.{Name}
 use Rattle.wire.specs.declared.kinds.SessionId.{SessionId}
 use Rattle.wire.proofs.Checks.{not-both, all-passed, went}
-use Rattle.wire.proofs.Tests.{failed}
-use Rattle.names.specs.Names.{nameBytes}
-use Rattle.text.specs.Text.{textThenSpaces, blank}
 use Rattle.ufo.specs.Down as ufo
 use Rattle.memx.specs.Packet as memx
 use Rattle.memx.specs.Read as memxRead
-use Rattle.record.specs.Record.{fresh, opening}
 use Rattle.record.specs.declared.Session.the-variants.{Ufo, Memx}
-use Rattle.names.proofs.Packing.{length-nameBytes}
 use Rattle.reports.proofs.Order.{sessionOf}
 use Rattle.reports.specs.Reports.{Report, messages, news, end, ofUfo, owned, ofMemx, reportOf}
 
@@ -38,6 +31,11 @@ reported-ufo name d report e = let w = went (ufo.read d) ofUfo report e in by (w
   by (ufo.messages first ms) q f = inl (first, ms, q)
   by (ufo.end total) q f = inr (total, q)
 
+-- and is the same for every UFO session
+pub same-for-every-name : (a b : Name) (d : List ℕ) → reportOf (Ufo a) d ≡ reportOf (Ufo b) d
+unfolding reportOf
+same-for-every-name a b d = refl
+
 -- what is reported to a MEMX record has its session
 pub reported-memx : (own : SessionId) (d : List ℕ) (report : Report) → reportOf (Memx own) d ≡ taken report
     → (p : memx.Packet) × (memxRead.read d ≡ taken p) × (sessionOf p ≡ own .0)
@@ -50,15 +48,3 @@ reported-memx own d report e = let w = went (memxRead.read d) (ofMemx (own .0)) 
   by (memx.heartbeat session highest extra) f = same session (news highest) f
   by (memx.shutdown session highest extra) f = same session (end highest) f
   by (memx.messages session first extra ms) f = same session (messages first ms) f
-
--- a name opens a record exactly if it is lawful in `A`
-pub opens-as-in-A : (name : Name) → (opening name ≡ taken (fresh (Ufo name))) ↔ ufo.Fit (ufo.accept (nameBytes name) 1)
-opens-as-in-A name = (lawful, opens) where
-  lawful : opening name ≡ taken (fresh (Ufo name)) → ufo.FitAccept (nameBytes name) 1
-  lawful e =
-      let p = all-passed ((textThenSpaces (nameBytes name) else 5) ∷ (not (blank (nameBytes name)) else 6) ∷ []) (taken (fresh (Ufo name)))
-      (fresh (Ufo name)) e .0 in
-      record { ten = length-nameBytes name; letters = p .0; named = failed refl (p .1 .0); some = omega arith; bound = omega arith }
-
-  opens : ufo.FitAccept (nameBytes name) 1 → opening name ≡ taken (fresh (Ufo name))
-  opens f = rw (f .letters, f .named)
