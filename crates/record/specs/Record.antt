@@ -25,7 +25,7 @@ fresh session = record {
   held = 0;
 }
 
--- a UFO session is a text field as in `A`: reports' Own.opens-as-in-A
+-- a UFO session is a text field as in `A`: reports' Opening.opens-as-in-A
 abbrev pub opening : Name → Verdict Record
 opening name =
     checked ((textThenSpaces (nameBytes name) else 5) ∷ (not (blank (nameBytes name)) else 6) ∷ [])

@@ -66,6 +66,6 @@ rising order from (c ∷ cs) =
 abbrev pub inOrder : List ℕ → List Check → Bool
 inOrder order cs = rising order 0 cs
 
--- the order in which readers check; each reader's `Order` shows that what it checks stands in it
+-- the order in which readers check; each reader's `Order` shows that what it checks stands in it, but for MEMX-UDP's, which has its own
 abbrev pub ordered : List Check → Bool
 ordered cs = inOrder (1 ∷ 2 ∷ 3 ∷ 4 ∷ 8 ∷ 5 ∷ 6 ∷ 7 ∷ []) cs
