@@ -1,5 +1,5 @@
 -- Whatever is handed out is the reader's word and the count's: a packet is what the reader says of those bytes, in its turn and under its
--- number; a refusal has its reason in those bytes and in the count, and there are four.
+-- number; a refusal has its reason in those bytes and in the count, and `Why` has all five.
 -- Assumes nothing.
 use Prim.Native.Nat.{ℕ, _-_, _^_, _≤_}
 use mathlib.Core.Path.{_≡_, refl, sym, _∙_}
