@@ -1,4 +1,5 @@
 // What to ask now.
+#![tactic(auto)]
 ghost use Rattle.std.specs.Prelude.{◌≡◌, ◌≤◌};
 ghost use Rattle.wire.specs.Checks.{taken};
 ghost use Rattle.asking.specs.Asking.{request_of, wish, asking, asked_of};
@@ -15,7 +16,7 @@ use wire::refusal;
 // The most messages that a request can name: its count has two bytes.
 const MOST: u16 = 65535;
 
-#[derive(Drop)]
+#[derive(Clone, Copy)]
 pub enum Asked {
     Refused(u8),
     // Nothing is missing.

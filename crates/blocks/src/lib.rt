@@ -1,11 +1,13 @@
 // Message blocks: a length of two bytes and as many bytes of data, one after the other.
+#![tactic(auto)]
+
 ghost use Rattle.std.specs.Prelude.{◌≡◌};
 ghost use Rattle.blocks.specs.Blocks.{block_at, fills, upstream, count_of, place_of, place_after};
 
 use wire::{fields, refusal};
 
 // The block that stands at a place: where its data begins, how long that is, and the place after it.
-#[derive(Drop)]
+#[derive(Clone, Copy)]
 pub enum Block {
     Refused(u8),
     At {
@@ -16,14 +18,14 @@ pub enum Block {
 }
 
 // A place between blocks.
-#[derive(Drop)]
+#[derive(Clone, Copy)]
 pub enum Place {
     Refused(u8),
     At(usize),
 }
 
 // How many blocks there are.
-#[derive(Drop)]
+#[derive(Clone, Copy)]
 pub enum Count {
     Refused(u8),
     Blocks(usize),

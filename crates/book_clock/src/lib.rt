@@ -1,4 +1,5 @@
 // Timed answers, waiting and silence.
+#![tactic(auto)]
 ghost use Rattle.std.specs.Prelude.{◌+◌, ◌≤◌, length};
 
 use book_lines::numbers;

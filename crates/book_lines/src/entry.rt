@@ -5,7 +5,7 @@ use crate::{hex, numbers};
 use bytes::scan;
 
 // How many bytes a piece of a text puts, and where the text goes on.
-#[derive(Drop)]
+#[derive(Clone, Copy)]
 struct Piece {
     count: usize,
     next: usize,

@@ -7,7 +7,7 @@ ghost use Rattle.book_lines.specs.Hex as Hex;
 const NONE: u8 = 16;
 
 // How many bytes are put, and the digit that waits for its second one.
-#[derive(Drop)]
+#[derive(Clone, Copy)]
 struct Spelling {
     count: usize,
     high: u8,

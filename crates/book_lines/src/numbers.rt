@@ -2,7 +2,7 @@
 use std::num;
 
 // A number that is being read: its digits, and the power of ten behind its point, 0 while there is none.
-#[derive(Drop)]
+#[derive(Clone, Copy)]
 struct Decimal {
     digits: u64,
     power: u64,

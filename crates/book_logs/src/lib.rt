@@ -1,14 +1,15 @@
 // The lending end: a log over lent bytes, and what goes out when its messages are asked for.
+#![tactic(auto)]
 use book_lines::{entry, numbers};
 use book_page::page;
 use bytes::scan;
-use log::{Log, Logged};
+use lent_log::{Log, Logged};
 use wire::fields;
 use wire::kinds::Sequence;
 use wire::output::Written;
 
 // A log, and how many bytes are lent to it.
-#[derive(Drop)]
+#[derive(Clone, Copy)]
 pub struct Shelf {
     log: Log,
     size: usize,
@@ -52,7 +53,7 @@ fn given(text: &[u8], lent: &mut [u8]) -> Shelf {
     let size = entry::bytes(&text[word..], lent);
     tell(log);
     if size <= lent.len() {
-        if !log::hangs_together(log, &lent[0..size]) {
+        if !lent_log::hangs_together(log, &lent[0..size]) {
             page::words(b", refused 10");
         }
     }
@@ -108,9 +109,9 @@ fn use_log(
 ) -> Shelf {
     let log = shelf.log;
     match letter {
-        b'a' => entered(log::add(log, bytes, d), shelf),
-        b'm' => entered(log::add_many(log, bytes, d), shelf),
-        b'e' => entered(log::declare_end(log, bytes), shelf),
+        b'a' => entered(lent_log::add(log, bytes, d), shelf),
+        b'm' => entered(lent_log::add_many(log, bytes, d), shelf),
+        b'e' => entered(lent_log::declare_end(log, bytes), shelf),
         _ => {
             send(letter, text, log, bytes, room);
             shelf
@@ -145,9 +146,9 @@ fn both(d: &[u8], lent: &mut [u8]) {
     }
     let length = fields::get2(d, 0) as usize;
     if length <= 2000 {
-        match log::add(empty(0).log, lent, &zeros[0..length]) {
+        match lent_log::add(empty(0).log, lent, &zeros[0..length]) {
             Logged::Refused(n) => page::refused(n),
-            Logged::After(log) => match log::add(log, lent, b"HI") {
+            Logged::After(log) => match lent_log::add(log, lent, b"HI") {
                 Logged::Refused(n) => page::refused(n),
                 Logged::After(log) => send(b'g', b"1 2", log, lent, page::ROOM),
             },

@@ -1,4 +1,5 @@
 // SoupTCP as it comes off the wire: a stream is fed piece by piece, and what it hands out is told.
+#![tactic(auto)]
 use book_lines::{entry, numbers};
 use book_packets::soup_packets;
 use book_page::page;
@@ -13,14 +14,14 @@ use wire::kinds::Sequence;
 pub const ROOM: usize = 4200;
 
 // How a stream stands, and how many bytes are lent to it as its buffer.
-#[derive(Drop)]
+#[derive(Clone, Copy)]
 pub struct Stream {
     pieces: Pieces,
     size: usize,
 }
 
 // How a stream stands after a call, how many bytes were put at the buffer's start, and where to go on in the piece.
-#[derive(Drop)]
+#[derive(Clone, Copy)]
 struct Step {
     pieces: Pieces,
     put: usize,

@@ -13,7 +13,7 @@ use wire::fields;
 use wire::kinds::{Sequence, SessionId};
 
 // A record, and how many bytes are lent to it as its area.
-#[derive(Drop)]
+#[derive(Clone, Copy)]
 pub struct Tape {
     kept: Record,
     size: usize,

@@ -1,4 +1,5 @@
 // Packets written. A line gives their fields in the order of the wire, each number in eight bytes.
+#![tactic(auto)]
 ghost use Rattle.std.specs.Prelude.{◌+◌, ◌≤◌, length};
 
 use book_page::page;

@@ -1,6 +1,6 @@
 // What the clock says to a question of yes or no.
 
-#[derive(Drop)]
+#[derive(Clone, Copy)]
 pub enum Said {
     Refused(u8),
     Yes,

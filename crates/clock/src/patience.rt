@@ -12,7 +12,7 @@ use wire::refusal::{BROKEN, RANGE};
 const DAY: f64 = 86_400_000.0;
 
 // The rule, in milliseconds.
-#[derive(Drop)]
+#[derive(Clone, Copy)]
 pub enum Patience {
     // Never ask twice.
     Never,
@@ -21,7 +21,7 @@ pub enum Patience {
     Measured(f64, f64),
 }
 
-#[derive(Drop)]
+#[derive(Clone, Copy)]
 pub enum Wait {
     Refused(u8),
     Never,

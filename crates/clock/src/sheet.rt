@@ -5,7 +5,7 @@ ghost use Rattle.clock.specs.Sheet.{sound, apart, smoothed, timing, timed_of};
 use crate::range::is_lawful;
 use wire::refusal::{BROKEN, RANGE};
 
-#[derive(Drop)]
+#[derive(Clone, Copy)]
 pub struct Sheet {
     pub mean: f64,
     pub spread: f64,
@@ -13,7 +13,7 @@ pub struct Sheet {
     pub timed: bool,
 }
 
-#[derive(Drop)]
+#[derive(Clone, Copy)]
 pub enum Timed {
     Refused(u8),
     Sheet(Sheet),

@@ -1,4 +1,6 @@
 // A number on the wire: twenty characters, spaces and then digits.
+#![tactic(auto)]
+
 ghost use Rattle.std.specs.Prelude.{◌≡◌, ◌+◌, ◌-◌, ◌*◌, ◌/◌, ◌%◌, ◌^◌, ◌<◌, ◌≤◌, true, false, length, take, drop, slice_index};
 ghost use Rattle.wire.specs.Checks.{◌at_most◌};
 ghost use Rattle.text.specs.Text.{blank};
@@ -30,7 +32,7 @@ const POWERS: [u64; 20] = [
 
 // What was read: nothing of that form, twenty spaces, a number over 2^64-1, or a number and its value.
 // Spaces have a case of their own, so that no caller takes them for 0.
-#[derive(Drop)]
+#[derive(Clone, Copy)]
 pub enum Number {
     Misshapen,
     Blank,
@@ -46,7 +48,7 @@ fn figure(b: u8) -> u64
 }
 
 // The digits that end a field, nineteen of them at most: how many there are, and what they come to.
-#[derive(Drop)]
+#[derive(Clone, Copy)]
 struct Tail {
     count: usize,
     value: u64,

@@ -5,7 +5,7 @@ ghost use Rattle.flat.specs.Block.{flat_block, next_block};
 use blocks::Block;
 
 #[repr(C)]
-#[derive(Drop)]
+#[derive(Clone, Copy)]
 pub struct FlatBlock {
     pub refusal: u64,
     pub start: u64,

@@ -5,7 +5,7 @@ ghost use Rattle.flat.specs.Wrote.{wrote_of};
 use wire::output::Written;
 
 #[repr(C)]
-#[derive(Drop)]
+#[derive(Clone, Copy)]
 pub struct Wrote {
     pub refusal: u64,
     pub bytes: u64,

@@ -1,4 +1,5 @@
 // Timing answers, waiting for them, and silence.
+#![tactic(auto)]
 ghost use Rattle.std.specs.Prelude.{◌≡◌};
 ghost use Rattle.flat_clock.specs.Waiting.{sheet_of, flat_sheet, flat_timed, rule_of, flat_wait, flat_said, time_answer, wait_answer};
 ghost use Rattle.flat_clock.specs.Waiting.{line_lost, heartbeat_due};
@@ -12,7 +13,7 @@ use wire::kinds::Tick;
 use wire::refusal;
 
 #[repr(C)]
-#[derive(Drop)]
+#[derive(Clone, Copy)]
 pub struct FlatSheet {
     pub mean: f64,
     pub spread: f64,
@@ -21,7 +22,7 @@ pub struct FlatSheet {
 
 // The rule: 0 never, 1 fixed, 2 measured between the first and the second.
 #[repr(C)]
-#[derive(Drop)]
+#[derive(Clone, Copy)]
 pub struct FlatPatience {
     pub rule: u8,
     pub first: f64,
@@ -29,14 +30,14 @@ pub struct FlatPatience {
 }
 
 #[repr(C)]
-#[derive(Drop)]
+#[derive(Clone, Copy)]
 pub struct FlatTimed {
     pub refusal: u64,
     pub sheet: FlatSheet,
 }
 
 #[repr(C)]
-#[derive(Drop)]
+#[derive(Clone, Copy)]
 pub struct FlatWait {
     pub refusal: u64,
     pub waits: u8,
@@ -44,7 +45,7 @@ pub struct FlatWait {
 }
 
 #[repr(C)]
-#[derive(Drop)]
+#[derive(Clone, Copy)]
 pub struct FlatSaid {
     pub refusal: u64,
     pub yes: u8,

@@ -4,8 +4,8 @@ use Prim.Native.Nat.{ℕ}
 use mathlib.Core.Path.{◌≡◌, ap, ◌∙◌}
 use mathlib.Core.List.{List}
 use Rattle.wire.specs.Checks.{Verdict}
-use Rattle.log.specs.Log.{Kept, Entered}
-use Rattle.log.specs.declared.Logged.{Logged}
+use Rattle.lent_log.specs.Log.{Kept, Entered}
+use Rattle.lent_log.specs.declared.Logged.{Logged}
 use Rattle.flat_log.specs.Lending.{flat_logged, FlatEntered}
 use Rattle.flat_log.specs.declared.FlatLog.{FlatLog}
 use Rattle.flat_log.specs.declared.FlatLogged.{FlatLogged}

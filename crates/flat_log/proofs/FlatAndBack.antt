@@ -2,7 +2,7 @@
 -- Assumes nothing.
 use mathlib.Core.Path.{◌≡◌}
 use Rattle.wire.specs.Checks.{taken}
-use Rattle.log.specs.declared.Log.{Log}
+use Rattle.lent_log.specs.declared.Log.{Log}
 use Rattle.flat.proofs.Flags.{flag-again, says-again}
 use Rattle.flat_log.specs.Lending.{known_log, flat_log}
 

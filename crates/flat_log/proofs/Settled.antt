@@ -5,7 +5,7 @@ use mathlib.Core.Path.{◌≡◌}
 use mathlib.Core.List.{List}
 use Rattle.wire.proofs.Outcomes.{Answered, Determined, same_answer, same-both}
 use Rattle.wire.specs.Checks.{Verdict}
-use Rattle.log.specs.Log.{Kept}
+use Rattle.lent_log.specs.Log.{Kept}
 use Rattle.flat.proofs.Outcomes.{same-flat-reply}
 use Rattle.flat_log.specs.Lending.{FlatEntered}
 use Rattle.flat_log.specs.declared.FlatLog.{FlatLog}

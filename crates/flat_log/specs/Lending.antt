@@ -4,10 +4,10 @@ use Rattle.std.specs.Prelude.{ℕ, ◌≡◌, List, [], ◌∷◌}
 use Rattle.wire.specs.Checks.{Verdict, taken, ◌else◌, checked, ◌into◌}
 use Rattle.wire.specs.Reply.{Reply}
 use Rattle.lend.specs.Answer.{answer_reply, heartbeat_reply, end_packet_reply}
-use Rattle.log.specs.Log.{Kept, adding, adding_many, declaring, logged_of, left_of}
-use Rattle.log.specs.declared.Log.{Log}
-use Rattle.log.specs.declared.Logged.{Logged}
-use Rattle.log.specs.declared.Logged.TheVariants.{Refused, After}
+use Rattle.lent_log.specs.Log.{Kept, adding, adding_many, declaring, logged_of, left_of}
+use Rattle.lent_log.specs.declared.Log.{Log}
+use Rattle.lent_log.specs.declared.Logged.{Logged}
+use Rattle.lent_log.specs.declared.Logged.TheVariants.{Refused, After}
 use Rattle.flat.specs.Flag.{is_flag, says, byte_of}
 use Rattle.flat_log.specs.declared.FlatLog.{FlatLog}
 use Rattle.flat_log.specs.declared.FlatLogged.{FlatLogged}

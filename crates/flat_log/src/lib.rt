@@ -1,4 +1,5 @@
 // The lending end: the log, and what it answers.
+#![tactic(auto)]
 ghost use Rattle.std.specs.Prelude.{◌≡◌, length};
 ghost use Rattle.flat.specs.Wrote.{FlatSettled};
 ghost use Rattle.flat_log.specs.Lending.{log_of, flat_log, flat_logged, FlatEntered, add_verdict, add_many_verdict, end_answer, answer_flat};
@@ -6,13 +7,13 @@ ghost use Rattle.flat_log.specs.Lending.{heartbeat_flat, end_packet_flat};
 
 use flat::flag;
 use flat::wrote::{Wrote, wrote_of};
-use log::{Log, Logged};
+use lent_log::{Log, Logged};
 use wire::kinds::Sequence;
 use wire::output::Written;
 use wire::refusal;
 
 #[repr(C)]
-#[derive(Drop)]
+#[derive(Clone, Copy)]
 pub struct FlatLog {
     pub count: u64,
     pub used: u64,
@@ -20,7 +21,7 @@ pub struct FlatLog {
 }
 
 #[repr(C)]
-#[derive(Drop)]
+#[derive(Clone, Copy)]
 pub struct FlatLogged {
     pub refusal: u64,
     pub log: FlatLog,
@@ -66,7 +67,7 @@ pub fn add(given: FlatLog, bytes: &mut [u8], message: &[u8]) -> FlatLogged
         given bytes.old result bytes.new }
 {
     if flag::is_flag(given.ended) {
-        flat_logged(given, log::add(log_of(given), bytes, message))
+        flat_logged(given, lent_log::add(log_of(given), bytes, message))
     } else {
         flat_logged(given, Logged::Refused(refusal::BROKEN))
     }
@@ -78,7 +79,7 @@ pub fn add_many(given: FlatLog, bytes: &mut [u8], blocks: &[u8]) -> FlatLogged
         given bytes.old result bytes.new }
 {
     if flag::is_flag(given.ended) {
-        flat_logged(given, log::add_many(log_of(given), bytes, blocks))
+        flat_logged(given, lent_log::add_many(log_of(given), bytes, blocks))
     } else {
         flat_logged(given, Logged::Refused(refusal::BROKEN))
     }
@@ -88,7 +89,7 @@ pub fn declare_end(given: FlatLog, bytes: &[u8]) -> FlatLogged
     ensures { result ≡ end_answer given bytes.now }
 {
     if flag::is_flag(given.ended) {
-        flat_logged(given, log::declare_end(log_of(given), bytes))
+        flat_logged(given, lent_log::declare_end(log_of(given), bytes))
     } else {
         flat_logged(given, Logged::Refused(refusal::BROKEN))
     }

@@ -1,4 +1,5 @@
 // One packet or message, laid flat: the fields that its type lacks are 0.
+#![tactic(auto)]
 pub mod fitting;
 
 ghost use Rattle.std.specs.Prelude.{◌≡◌, ◌-◌};
@@ -7,7 +8,7 @@ ghost use Rattle.flat_packet.specs.Packets.{requested, no_packet, the_packet};
 
 // kind: the type byte of the wire. extra: in MEMX-UDP how many bytes the header has past its own fields.
 #[repr(C)]
-#[derive(Drop)]
+#[derive(Clone, Copy)]
 pub struct Packet {
     pub kind: u8,
     pub reason: u8,
@@ -24,7 +25,7 @@ pub struct Packet {
 }
 
 #[repr(C)]
-#[derive(Drop)]
+#[derive(Clone, Copy)]
 pub struct Read {
     pub refusal: u64,
     pub packet: Packet,

@@ -1,4 +1,5 @@
 // SoupTCP as it comes off the wire, laid flat.
+#![tactic(auto)]
 ghost use Rattle.std.specs.Prelude.{◌≡◌, ◌+◌, ◌≤◌, length, take, drop};
 ghost use Rattle.soup.specs.Read.{read};
 ghost use Rattle.soup.specs.Reading.{reading_of};
@@ -17,7 +18,7 @@ use wire::{output, refusal};
 
 // What is handed from call to call, with the buffer.
 #[repr(C)]
-#[derive(Drop)]
+#[derive(Clone, Copy)]
 pub struct FlatPieces {
     pub kept: u64,
     pub dropping: u8,
@@ -26,7 +27,7 @@ pub struct FlatPieces {
 
 // what: 0 the piece is used up, 1 a packet, 2 a refused packet.
 #[repr(C)]
-#[derive(Drop)]
+#[derive(Clone, Copy)]
 pub struct FlatPiece {
     pub refusal: u64,
     pub place: u64,

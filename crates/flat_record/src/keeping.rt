@@ -13,7 +13,7 @@ use wire::refusal;
 
 // style: 1 UFO, with the name; 2 MEMX-UDP, with the session.
 #[repr(C)]
-#[derive(Drop)]
+#[derive(Clone, Copy)]
 pub struct FlatRecord {
     pub style: u8,
     pub ended: u8,
@@ -27,7 +27,7 @@ pub struct FlatRecord {
 }
 
 #[repr(C)]
-#[derive(Drop)]
+#[derive(Clone, Copy)]
 pub struct FlatTaken {
     pub refusal: u64,
     pub bytes: u64,
@@ -37,7 +37,7 @@ pub struct FlatTaken {
 
 // missing: how many ranges are; first to last is the first of them.
 #[repr(C)]
-#[derive(Drop)]
+#[derive(Clone, Copy)]
 pub struct FlatStanding {
     pub refusal: u64,
     pub complete: u8,
@@ -47,7 +47,7 @@ pub struct FlatStanding {
 }
 
 #[repr(C)]
-#[derive(Drop)]
+#[derive(Clone, Copy)]
 pub struct FlatRange {
     pub refusal: u64,
     pub first: u64,

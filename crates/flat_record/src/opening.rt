@@ -10,7 +10,7 @@ use record::open::Opened;
 use wire::kinds::SessionId;
 
 #[repr(C)]
-#[derive(Drop)]
+#[derive(Clone, Copy)]
 pub struct FlatOpened {
     pub refusal: u64,
     pub opened: FlatRecord,

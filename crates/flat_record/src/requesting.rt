@@ -11,7 +11,7 @@ use wire::refusal;
 
 // what: 0 nothing, 1 wait, 2 request.
 #[repr(C)]
-#[derive(Drop)]
+#[derive(Clone, Copy)]
 pub struct FlatAsked {
     pub refusal: u64,
     pub what: u8,

@@ -6,8 +6,8 @@ use mathlib.Core.Path.{◌≡◌, refl, sym, ◌∙◌}
 use mathlib.Core.List.{List, []}
 use Rattle.wire.specs.Checks.{Verdict, refused, taken}
 use Rattle.names.specs.Names.{name_bytes}
-use Rattle.log.specs.Log.{Kept, declaring, logged_of, left_of}
-use Rattle.log.proofs.Adding.{declared}
+use Rattle.lent_log.specs.Log.{Kept, declaring, logged_of, left_of}
+use Rattle.lent_log.proofs.Adding.{declared}
 use Rattle.session.specs.Session.{◌among◌, State, Act, adds, adds_many, declares, beats, ends, answers, accepts, rejects, serves, takes}
 use Rattle.session.specs.Session.{asks, says, Allowed, logging, sending as sends, step, then, Run, Reached}
 use Rattle.ufo_write.specs.WriteDown.{accept_reply, reject_reply}

@@ -7,7 +7,7 @@ use mathlib.Core.Bool.{true}
 use borrow.Author.Tests.{eqb-true}
 use Rattle.wire.specs.Checks.{taken, ◌else◌}
 use Rattle.wire.proofs.Checks.{all-passed, taken-same}
-use Rattle.log.specs.declared.Log.{Log}
+use Rattle.lent_log.specs.declared.Log.{Log}
 use Rattle.record.specs.declared.Record.{Record}
 use Rattle.session.specs.Session.{State, logged}
 use Rattle.session.specs.Promise as session

@@ -26,8 +26,8 @@ use Rattle.ufo_up.proofs.UpExactOne.{left_t}
 use Rattle.ufo_up_write.specs.WriteUp.{reply}
 use Rattle.ufo_up_write.proofs.UpReplies.{reply-request}
 use Rattle.blocks.specs.Blocks.{frame}
-use Rattle.log.specs.declared.Log.{Log}
-use Rattle.log.specs.Log.{hangs, messages_in}
+use Rattle.lent_log.specs.declared.Log.{Log}
+use Rattle.lent_log.specs.Log.{hangs, messages_in}
 use Rattle.lend.specs.Answer.{answerable, answer_to, answer_reply, heartbeat_of, heartbeat_reply, end_of, end_packet_reply}
 use Rattle.text.specs.Text.{text_then_spaces, blank}
 use Rattle.record.specs.Record.{fresh, opening}

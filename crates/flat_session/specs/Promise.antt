@@ -4,7 +4,7 @@
 use Rattle.std.specs.Prelude.{ℕ, zero, suc, ◌+◌, ◌-◌, ◌^◌, ◌%◌, ◌≤◌, ◌<◌, ◌≡◌, ◌⊎◌, List, [], Bool, true, false, Float, length, take, get_or}
 use Rattle.wire.specs.Fields.{Bytes}
 use Rattle.blocks.specs.Blocks.{frames}
-use Rattle.log.specs.Log.{messages_in}
+use Rattle.lent_log.specs.Log.{messages_in}
 use Rattle.held.specs.Slots.{area_size, held_message}
 use Rattle.missing.specs.Missing.{is_held}
 use Rattle.session.specs.Session.{◌among◌, enough}

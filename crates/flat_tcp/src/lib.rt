@@ -1,4 +1,5 @@
 // MEMX-TCP laid flat: a packet read, and one written from its fields.
+#![tactic(auto)]
 ghost use Rattle.std.specs.Prelude.{◌≡◌, length};
 ghost use Rattle.flat.specs.Wrote.{FlatSettled};
 ghost use Rattle.flat_tcp.specs.Packets.{flat_tcp, tcp_read, fields_of, tcp_reply};
@@ -11,7 +12,7 @@ use wire::kinds::{Sequence, SessionId};
 
 // kind: the type byte of the wire. The fields that the type lacks are 0.
 #[repr(C)]
-#[derive(Drop)]
+#[derive(Clone, Copy)]
 pub struct FlatTcp {
     pub kind: u8,
     pub letter: u8,
@@ -24,7 +25,7 @@ pub struct FlatTcp {
 }
 
 #[repr(C)]
-#[derive(Drop)]
+#[derive(Clone, Copy)]
 pub struct FlatTcpReading {
     pub refusal: u64,
     pub packet: FlatTcp,

@@ -8,7 +8,7 @@ use crate::hanging::is_sound;
 use crate::slots;
 use wire::{fields, output, refusal};
 
-#[derive(Drop)]
+#[derive(Clone, Copy)]
 pub enum Released {
     Refused(u8),
     Messages { messages: u32, bytes: usize },

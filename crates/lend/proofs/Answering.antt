@@ -19,11 +19,11 @@ use Rattle.blocks.proofs.Cutting.{frames-cut}
 use Rattle.ufo.specs.Down.{messages, write, Fit}
 use Rattle.blocks.proofs.Counting.{count_cut}
 use Rattle.ufo.proofs.DownLaid.{length-laid}
-use Rattle.log.specs.Log.{small, messages_in, hangs}
+use Rattle.lent_log.specs.Log.{small, messages_in, hangs}
 use Rattle.lend.specs.Answer.{greatest, from, goes, heartbeat_of, end_of, answer_to}
-use Rattle.log.specs.declared.Log.{Log}
+use Rattle.lent_log.specs.declared.Log.{Log}
 use Rattle.wire.proofs.Tests.{by-test, and_left, and_right, leb-same}
-use Rattle.log.proofs.Hanging.{hanging}
+use Rattle.lent_log.proofs.Hanging.{hanging}
 use Rattle.lend.proofs.Greatest.{greatest-bound, greatest-passes, greatest-above, greatest-same}
 use Rattle.lend.proofs.Measuring.{holds}
 

@@ -12,9 +12,9 @@ use Rattle.wire.proofs.Settling.{within-taken}
 use Rattle.wire.proofs.Tests.{nonzero}
 use Rattle.ufo.specs.Down.{Packet, write, Fit, read}
 use Rattle.ufo.proofs.Exact.{written-is-read}
-use Rattle.log.specs.Log.{messages_in, hangs}
+use Rattle.lent_log.specs.Log.{messages_in, hangs}
 use Rattle.lend.specs.Answer.{heartbeat_of, end_of, answer_to, answerable, answer_reply, heartbeat_reply, end_packet_reply}
-use Rattle.log.specs.declared.Log.{Log}
+use Rattle.lent_log.specs.declared.Log.{Log}
 use Rattle.lend.proofs.Answering.{few-in, bytes-in, beat-fits, end_fits, answer-fits}
 
 -- bytes that are a lawful packet, which the reader takes

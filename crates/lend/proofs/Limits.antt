@@ -3,7 +3,7 @@
 use Prim.Native.Nat.{◌+◌}
 use mathlib.Core.Path.{◌≡◌, refl}
 use Rattle.wire.specs.Datagram.{limit}
-use Rattle.log.specs.Log.{longest}
+use Rattle.lent_log.specs.Log.{longest}
 
 pub longest-fills-a-packet : limit ≡ 7 + 2 + longest
 longest-fills-a-packet = refl

@@ -6,8 +6,8 @@ use mathlib.Core.Bool.{true}
 use mathlib.Core.List.{List, [], ◌∷◌}
 use Rattle.wire.specs.Checks.{taken, checked, in_order}
 use Rattle.ufo.specs.Down.{write}
-use Rattle.log.specs.Log.{messages_in}
-use Rattle.log.specs.declared.Log.{Log}
+use Rattle.lent_log.specs.Log.{messages_in}
+use Rattle.lent_log.specs.declared.Log.{Log}
 use Rattle.lend.specs.Answer.{answer_to, answerable, answer_reply}
 
 pub answering-in-order : (l : Log) (s : List ℕ) (f c room : ℕ)

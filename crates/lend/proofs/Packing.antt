@@ -20,11 +20,11 @@ use Rattle.blocks.proofs.Skipping.{past, Skipped, skipped, skipped-bytes}
 use Rattle.ufo.specs.Down.{messages, write}
 use Rattle.ufo_write.specs.WriteDown.{messages_reply}
 use Rattle.ufo_write.proofs.DownLawful.{lawful-fit}
-use Rattle.log.specs.Log.{messages_in, hangs}
+use Rattle.lent_log.specs.Log.{messages_in, hangs}
 use Rattle.lend.specs.Answer.{greatest, goes, packed, run}
-use Rattle.log.specs.declared.Log.{Log}
+use Rattle.lent_log.specs.declared.Log.{Log}
 use Rattle.lend.specs.declared.Run.{Run}
-use Rattle.log.proofs.Hanging.{hanging}
+use Rattle.lent_log.proofs.Hanging.{hanging}
 use Rattle.lend.proofs.Measuring.{holds, ran}
 use Rattle.lend.proofs.Answering.{count-is, few-in, bytes-in, most-holds, most, from-fits}
 

@@ -18,9 +18,9 @@ use Rattle.ufo_write.specs.WriteDown.{messages_reply}
 use Rattle.ufo_write.specs.WriteDown as ufo
 use Rattle.ufo.proofs.DownLaid.{length-laid}
 use Rattle.ufo_write.proofs.DownLawful.{lawful-reply}
-use Rattle.log.specs.Log.{messages_in, hangs}
+use Rattle.lent_log.specs.Log.{messages_in, hangs}
 use Rattle.lend.specs.Answer.{packed, heartbeat_of, end_of, answer_to, answer_reply, heartbeat_reply, end_packet_reply}
-use Rattle.log.specs.declared.Log.{Log}
+use Rattle.lent_log.specs.declared.Log.{Log}
 use Rattle.lend.proofs.Answering.{count-is, few-in, beat-fits, end_fits}
 
 module _ (l : Log) (s : List ℕ) (h : hangs l s ≡ true) where

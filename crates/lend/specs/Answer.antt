@@ -6,8 +6,8 @@ use Rattle.wire.specs.Datagram.{limit}
 use Rattle.wire.specs.Reply.{Reply, within}
 use Rattle.blocks.specs.Blocks.{end_at}
 use Rattle.ufo.specs.Down.{Packet, messages, end, write}
-use Rattle.log.specs.Log.{messages_in, hangs}
-use Rattle.log.specs.declared.Log.{Log}
+use Rattle.lent_log.specs.Log.{messages_in, hangs}
+use Rattle.lent_log.specs.declared.Log.{Log}
 use Rattle.lend.specs.declared.Run.{Run}
 
 -- the greatest k up to c that passes the test, and 0 where none does; Greatest shows that it is

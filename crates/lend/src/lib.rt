@@ -1,21 +1,22 @@
 // Answering: the packet that a request gets, and the heartbeats and ends that can be had at any time.
+#![tactic(auto)]
 ghost use Rattle.std.specs.Prelude.{◌≡◌, true, ◌≤◌, ◌<◌, length};
 ghost use Rattle.wire.specs.Checks.{taken};
 ghost use Rattle.wire.specs.Datagram.{limit};
 ghost use Rattle.wire.specs.Reply.{Settled};
 ghost use Rattle.ufo.specs.Down.{write};
-ghost use Rattle.log.specs.Log.{messages_in, hangs};
+ghost use Rattle.lent_log.specs.Log.{messages_in, hangs};
 ghost use Rattle.lend.specs.Answer.{packed, answer_reply, heartbeat_reply, end_packet_reply, run};
 
 use blocks::{Block, Place};
-use log::Log;
+use lent_log::Log;
 use wire::datagram::LIMIT;
 use wire::kinds::Sequence;
 use wire::output::Written;
 use wire::refusal;
 
 // Blocks one after the other: how many, and the place where the last of them ends.
-#[derive(Drop)]
+#[derive(Clone, Copy)]
 struct Run {
     count: u16,
     end: usize,
@@ -72,7 +73,7 @@ pub fn answer(log: Log, bytes: &[u8], first: Sequence, count: u16, out: &mut [u8
     ensures { Settled (answer_reply log bytes.now first.0 count (length out.old))
         out.old result out.new }
 {
-    if !log::hangs_together(log, bytes) {
+    if !lent_log::hangs_together(log, bytes) {
         return Written::Refused(refusal::BROKEN);
     }
     let number = first.0;
@@ -100,7 +101,7 @@ pub fn heartbeat(log: Log, bytes: &[u8], out: &mut [u8]) -> Written
     ensures { Settled (heartbeat_reply log bytes.now (length out.old))
         out.old result out.new }
 {
-    if !log::hangs_together(log, bytes) {
+    if !lent_log::hangs_together(log, bytes) {
         return Written::Refused(refusal::BROKEN);
     }
     let total = log.count;
@@ -111,7 +112,7 @@ pub fn end_packet(log: Log, bytes: &[u8], out: &mut [u8]) -> Written
     ensures { Settled (end_packet_reply log bytes.now (length out.old))
         out.old result out.new }
 {
-    if !log::hangs_together(log, bytes) {
+    if !lent_log::hangs_together(log, bytes) {
         return Written::Refused(refusal::BROKEN);
     }
     let ended = log.ended;

@@ -10,7 +10,7 @@ use wire::{fields, refusal};
 
 // What a packet says. `extra` is how many bytes the header has past its own fields: they stand from layout::HEADER on, and the
 // blocks of messages begin so many bytes behind layout::BLOCKS.
-#[derive(Drop)]
+#[derive(Clone, Copy)]
 pub enum Memx {
     Refused(u8),
     Heartbeat {

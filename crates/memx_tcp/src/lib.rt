@@ -1,4 +1,6 @@
 // MEMX-TCP 1.2: its packets, read and written.
+#![tactic(auto)]
+
 mod layout;
 pub mod packet;
 pub mod reading;

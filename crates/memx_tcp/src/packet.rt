@@ -2,7 +2,7 @@
 use wire::kinds::{Sequence, SessionId};
 
 // Those that the type lacks are 0.
-#[derive(Drop)]
+#[derive(Clone, Copy)]
 pub struct Fields {
     // The type byte of the wire.
     pub kind: u8,

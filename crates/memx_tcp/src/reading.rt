@@ -13,7 +13,7 @@ use wire::kinds::{Sequence, SessionId};
 use wire::refusal;
 
 // What a packet says: its fields, and where its token or payload begins and how many bytes it has, both 0 where the type has neither.
-#[derive(Drop)]
+#[derive(Clone, Copy)]
 pub enum Tcp {
     Refused(u8),
     Packet {

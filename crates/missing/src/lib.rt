@@ -1,4 +1,5 @@
 // What is missing: the ranges of the numbers from N to T that are not held. Numbers are counted from N here, since N+31 may not fit.
+#![tactic(auto)]
 ghost use Rattle.std.specs.Prelude.{◌≡◌, false, ◌+◌, ◌≤◌, length};
 ghost use Rattle.missing.specs.Missing.{is_held, missing, ◌at◌};
 ghost use Rattle.missing.specs.Runs.{LastOf, PastHeld};
@@ -6,7 +7,7 @@ ghost use Rattle.missing.specs.Runs.{LastOf, PastHeld};
 use held::slots;
 use wire::kinds::Sequence;
 
-#[derive(Drop)]
+#[derive(Clone, Copy)]
 pub struct Range {
     pub first: Sequence,
     pub last: Sequence,

@@ -1,4 +1,6 @@
 // Names and users: packed from the bytes of a slice, and laid out there.
+#![tactic(auto)]
+
 ghost use Rattle.std.specs.Prelude.{◌≡◌, ◌+◌, ◌≤◌, length, drop};
 ghost use Rattle.std.proofs.lemmas.List.Edits.{sets};
 ghost use Rattle.names.specs.Names.{name_bytes, name_of, user_bytes, user_of};

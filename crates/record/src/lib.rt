@@ -1,4 +1,5 @@
 // The session record: what a receiver knows of one session.
+#![tactic(auto)]
 pub mod hangs;
 pub mod open;
 pub mod standing;
@@ -6,13 +7,13 @@ pub mod standing;
 use wire::kinds::{Name, Sequence, SessionId};
 
 // The style and the session in one.
-#[derive(Drop)]
+#[derive(Clone, Copy)]
 pub enum Session {
     Ufo(Name),
     Memx(SessionId),
 }
 
-#[derive(Drop)]
+#[derive(Clone, Copy)]
 pub struct Record {
     pub session: Session,
     // The number of the message that is delivered next.

@@ -7,7 +7,7 @@ use crate::{Record, Session};
 use wire::kinds::{Name, Sequence, SessionId};
 use wire::refusal;
 
-#[derive(Drop)]
+#[derive(Clone, Copy)]
 pub enum Opened {
     Refused(u8),
     Record(Record),

@@ -8,7 +8,7 @@ use missing::Range;
 use wire::kinds::Sequence;
 use wire::refusal;
 
-#[derive(Drop)]
+#[derive(Clone, Copy)]
 pub enum Standing {
     Refused(u8),
     // Every message up to the end was delivered.
@@ -24,7 +24,7 @@ pub enum Standing {
 }
 
 // A missing range, noughts where there is none.
-#[derive(Drop)]
+#[derive(Clone, Copy)]
 pub enum MissingRange {
     Refused(u8),
     Range(Range),

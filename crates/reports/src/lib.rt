@@ -1,4 +1,5 @@
 // Reports: what a datagram reports to a record of a session, in either style.
+#![tactic(auto)]
 ghost use Rattle.std.specs.Prelude.{◌≡◌};
 ghost use Rattle.wire.specs.Checks.{if◌then◌else◌, ◌is◌, ◌into◌};
 ghost use Rattle.ufo.specs.Down as ufo;
@@ -16,7 +17,7 @@ use wire::refusal;
 // Where the blocks of UFO messages begin.
 const UFO_BLOCKS: usize = 7;
 
-#[derive(Drop)]
+#[derive(Clone, Copy)]
 pub enum Reported {
     Refused(u8),
     // Their blocks stand from the place to the datagram's end.

@@ -16,9 +16,9 @@ use Rattle.blocks.proofs.Frames.{short-frames}
 use Rattle.blocks.proofs.Cutting.{cut-frames}
 use Rattle.ufo_up.specs.Up.{Message, login, request, unsequenced, heartbeat, logout, read_up, upstream_of, up_of}
 use Rattle.ufo_up.proofs.UpInTurn.{InTurn, in-turn}
-use Rattle.log.specs.Log.{Kept, declaring, logged_of, Entered}
-use Rattle.log.specs.declared.Logged.{Logged}
-use Rattle.log.proofs.Adding.{declared}
+use Rattle.lent_log.specs.Log.{Kept, declaring, logged_of, Entered}
+use Rattle.lent_log.specs.declared.Logged.{Logged}
+use Rattle.lent_log.proofs.Adding.{declared}
 use Rattle.taking.specs.Taking.{Taking, taking, taken_of, Answered}
 use Rattle.asking.specs.Asking.{Wish, nothing, wait, request as wanted, asking, asked_of}
 use Rattle.record.specs.Record.{opening}

@@ -9,9 +9,9 @@ use lib.Seq.{length-take-le, take-append_seam, get_or-take}
 use Rattle.blocks.specs.Blocks.{frames}
 use Rattle.wire.proofs.Width.{bytes_take}
 use Rattle.blocks.proofs.Cutting.{frames-cut}
-use Rattle.log.specs.Log.{messages_in}
-use Rattle.log.specs.declared.Log.{Log}
-use Rattle.log.proofs.Hanging.{hanging}
+use Rattle.lent_log.specs.Log.{messages_in}
+use Rattle.lent_log.specs.declared.Log.{Log}
+use Rattle.lent_log.proofs.Hanging.{hanging}
 use Rattle.blocks.proofs.Places.{frames-split}
 use Rattle.session.specs.Session.{State, logged}
 use Rattle.session.specs.Promise.{Faithful, Delivered}

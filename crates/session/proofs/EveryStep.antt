@@ -14,7 +14,7 @@ use Rattle.wire.proofs.Checks.{not-both}
 use Rattle.blocks.specs.Blocks.{frames}
 use Rattle.ufo.specs.Down as ufo
 use Rattle.ufo_up.specs.Up.{Message, login, request, unsequenced, heartbeat, logout}
-use Rattle.log.specs.Log.{Kept}
+use Rattle.lent_log.specs.Log.{Kept}
 use Rattle.lend.proofs.Answering.{few-in}
 use Rattle.record.specs.Record.{hangs}
 use Rattle.reports.specs.Reports.{Report, of_ufo}

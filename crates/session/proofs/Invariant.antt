@@ -16,7 +16,7 @@ use Rattle.text.specs.Text.{blank, text_then_spaces}
 use Rattle.wire.specs.declared.kinds.Name.{Name}
 use Rattle.wire.proofs.Checks.{all-passed}
 use Rattle.blocks.specs.Blocks.{cut}
-use Rattle.log.specs.Log.{small, hangs}
+use Rattle.lent_log.specs.Log.{small, hangs}
 use Rattle.held.specs.Slots.{area_size, slot_of}
 use Rattle.held.proofs.Bitmap.{none-full}
 use Rattle.held.proofs.Hangs.{none-in-place, none-sound}

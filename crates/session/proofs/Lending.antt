@@ -10,7 +10,7 @@ use lib.ListN.{length, take, drop}
 use lib.Dec.{leb}
 use Rattle.wire.specs.Checks.{if◌then◌else◌, taken}
 use Rattle.ufo.specs.Down as ufo
-use Rattle.log.specs.Log.{small}
+use Rattle.lent_log.specs.Log.{small}
 use Rattle.lend.specs.Answer.{greatest, from, goes, packed, heartbeat_of, end_of, answer_to}
 use Rattle.lend.proofs.Answering.{Most, most, one-goes}
 use Rattle.reports.specs.Reports.{Report, messages, end, of_ufo}

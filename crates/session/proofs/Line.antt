@@ -10,10 +10,10 @@ use Rattle.wire.specs.Checks.{taken}
 use Rattle.wire.proofs.Checks.{all-passed}
 use Rattle.ufo.specs.Down as ufo
 use Rattle.wire.proofs.Tests.{nonzero as positive}
-use Rattle.log.specs.Log.{messages_in}
+use Rattle.lent_log.specs.Log.{messages_in}
 use Rattle.lend.specs.Answer.{answer_to, answerable, answer_reply, heartbeat_reply, end_packet_reply}
-use Rattle.log.specs.declared.Log.{Log}
-use Rattle.log.proofs.Hanging.{hanging}
+use Rattle.lent_log.specs.declared.Log.{Log}
+use Rattle.lent_log.proofs.Hanging.{hanging}
 use Rattle.lend.proofs.Given.{Gives, answered, beaten, ended}
 use Rattle.reports.specs.Reports.{Report}
 use Rattle.session.proofs.Lending.{Vouched, beat-vouched, end-vouched, Answer, answer}

@@ -11,10 +11,10 @@ use Rattle.wire.proofs.Checks.{all-passed}
 use Rattle.blocks.specs.Blocks.{frames, whole, is_whole, messages_of, Each, Short}
 use Rattle.blocks.proofs.Cutting.{cut-frames, frames-cut}
 use Rattle.blocks.proofs.Counting.{whole_is}
-use Rattle.log.specs.Log.{messages_in, hangs, Kept, extended, growing, fitting, adding, to_the_end, adding_many, declaring}
-use Rattle.log.specs.declared.Log.{Log}
-use Rattle.log.proofs.Adding.{small-short, Fits, Grown, still-bytes, added, added-many, declared}
-use Rattle.log.proofs.Many.{frames-all}
+use Rattle.lent_log.specs.Log.{messages_in, hangs, Kept, extended, growing, fitting, adding, to_the_end, adding_many, declaring}
+use Rattle.lent_log.specs.declared.Log.{Log}
+use Rattle.lent_log.proofs.Adding.{small-short, Fits, Grown, still-bytes, added, added-many, declared}
+use Rattle.lent_log.proofs.Many.{frames-all}
 use Rattle.session.proofs.Growing.{Grows}
 
 pub record Hung (l : Log) (s : List ℕ) : Type 0 where

@@ -29,7 +29,7 @@ use Rattle.ufo_up_write.specs.WriteUp.{verdict, reply}
 use Rattle.clock.specs.Milliseconds.{whole}
 use Rattle.clock.specs.declared.sheet.Sheet.{Sheet}
 use Rattle.clock.specs.declared.patience.Patience.TheVariants.{Never}
-use Rattle.log.specs.Log as log
+use Rattle.lent_log.specs.Log as log
 use Rattle.lend.specs.Answer.{greatest, answer_to, answer_reply, end_packet_reply}
 use Rattle.held.specs.Slots.{area_size, freed_from, held_message}
 use Rattle.held.specs.Hanging.{every, in_place, sound}

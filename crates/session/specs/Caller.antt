@@ -19,8 +19,8 @@ use Rattle.ufo_up.specs.declared.up.Upstream.{Upstream}
 use Rattle.ufo_up.specs.declared.up.Upstream.TheVariants as packet
 use Rattle.clock.specs.declared.sheet.Sheet.{Sheet}
 use Rattle.clock.specs.declared.patience.Patience.{Patience}
-use Rattle.log.specs.declared.Logged.{Logged}
-use Rattle.log.specs.declared.Logged.TheVariants as logged
+use Rattle.lent_log.specs.declared.Logged.{Logged}
+use Rattle.lent_log.specs.declared.Logged.TheVariants as logged
 use Rattle.missing.specs.Missing.{◌to◌, ◌at◌}
 use Rattle.missing.specs.declared.Range.{Range}
 use Rattle.record.specs.Record.{opening}
@@ -36,7 +36,7 @@ use Rattle.taking.specs.declared.Taken.{Taken}
 use Rattle.taking.specs.declared.Taken.TheVariants as took
 use Rattle.asking.specs.declared.Asked.{Asked}
 use Rattle.asking.specs.declared.Asked.TheVariants as asked
-use Rattle.log.proofs as log
+use Rattle.lent_log.proofs as log
 use Rattle.lend.proofs as lend
 use Rattle.ufo_write.proofs as ufo-write
 use Rattle.ufo_up.proofs.up as ufo-up

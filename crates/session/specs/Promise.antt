@@ -8,7 +8,7 @@ use Rattle.ufo_up.specs.Up.{request, read_up}
 use Rattle.ufo_up_write.specs.WriteUp.{reply}
 use Rattle.clock.specs.declared.sheet.Sheet.{Sheet}
 use Rattle.clock.specs.declared.patience.Patience.{Patience}
-use Rattle.log.specs.Log as log
+use Rattle.lent_log.specs.Log as log
 use Rattle.lend.specs.Answer.{answer_reply}
 use Rattle.held.specs.Slots.{held_message}
 use Rattle.held.specs.Hanging.{sound}

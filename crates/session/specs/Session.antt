@@ -13,9 +13,9 @@ use Rattle.ufo_up.specs.Up.{Message, login, request, unsequenced, heartbeat, log
 use Rattle.ufo_up_write.specs.WriteUp.{reply}
 use Rattle.clock.specs.declared.sheet.Sheet.{Sheet}
 use Rattle.clock.specs.declared.patience.Patience.{Patience}
-use Rattle.log.specs.Log.{messages_in, Kept, adding, adding_many, declaring}
+use Rattle.lent_log.specs.Log.{messages_in, Kept, adding, adding_many, declaring}
 use Rattle.lend.specs.Answer.{answer_reply, heartbeat_reply, end_packet_reply}
-use Rattle.log.specs.declared.Log.{Log}
+use Rattle.lent_log.specs.declared.Log.{Log}
 use Rattle.held.specs.Slots.{area_size}
 use Rattle.record.specs.Record.{opening}
 use Rattle.taking.specs.Taking.{Taking, taking}

@@ -1,4 +1,6 @@
 // Silence: whether too long has passed since a packet was heard or sent.
+#![tactic(auto)]
+
 ghost use Rattle.std.specs.Prelude.{◌≡◌};
 ghost use Rattle.clock.specs.Answer.{said_of};
 ghost use Rattle.silence.specs.Silence.{exceeds};

@@ -9,7 +9,7 @@ use wire::kinds::{Name, Password, Sequence, User};
 use wire::refusal;
 
 // What a packet says. A payload is told by its place in the packet.
-#[derive(Drop)]
+#[derive(Clone, Copy)]
 pub enum Reading {
     Refused(u8),
     Debug {

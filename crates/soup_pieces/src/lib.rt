@@ -1,4 +1,5 @@
 // SoupTCP as it comes off the wire: pieces that are cut anywhere go in, and whole packets come out in order.
+#![tactic(auto)]
 mod closing;
 mod gathering;
 mod readiness;
@@ -14,7 +15,7 @@ use wire::kinds::Sequence;
 use wire::refusal;
 
 // What is handed from call to call, with the buffer.
-#[derive(Drop)]
+#[derive(Clone, Copy)]
 pub struct Pieces {
     // How many bytes of an unfinished packet stand at the buffer's start.
     pub kept: usize,
@@ -25,7 +26,7 @@ pub struct Pieces {
 }
 
 // Up to the first packet that ends. Its bytes are the buffer's first `bytes`, and `place` is where to go on in the piece.
-#[derive(Drop)]
+#[derive(Clone, Copy)]
 pub enum Taken {
     // The call itself is refused, and nothing has changed.
     Refused(u8),

@@ -1,6 +1,7 @@
 // The specimen book is read from standard input and run on the desk. A line that begins with a small letter is for the desk: the
 // letter says for whom, and the line's hexadecimal digits, in capitals, are bytes, or, where the words ask for numbers, decimal ones.
 // Every line is copied, and an answer follows its own.
+#![tactic(auto)]
 ghost use Rattle.std.specs.Prelude.{◌≡◌, length};
 
 use book_lines::entry;
@@ -17,7 +18,7 @@ use libc::STDIN_FILENO;
 const BOOK: usize = 131072;
 
 // What is handed from line to line.
-#[derive(Drop)]
+#[derive(Clone, Copy)]
 struct Desk {
     tape: Tape,
     shelf: Shelf,

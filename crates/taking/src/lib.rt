@@ -1,4 +1,5 @@
 // Taking a datagram into a session record.
+#![tactic(auto)]
 mod deliver;
 mod early;
 mod tell;
@@ -22,7 +23,7 @@ use reports::{Reported, report_of};
 use wire::output::Written;
 use wire::refusal;
 
-#[derive(Drop)]
+#[derive(Clone, Copy)]
 pub enum Taken {
     Refused(u8),
     Took {

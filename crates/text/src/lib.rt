@@ -1,4 +1,6 @@
 // Text fields: blank, padded on the right, padded on the left.
+#![tactic(auto)]
+
 ghost use Rattle.std.specs.Prelude.{◌≡◌, drop};
 ghost use Rattle.names.specs.Names.{name_bytes, user_bytes};
 ghost use Rattle.text.specs.Text.{letter_or_digit, blank, text, text_then_spaces, spaces_then_text};

@@ -10,7 +10,7 @@ use wire::{fields, refusal};
 pub const HIGHEST: u64 = 4294967295;
 
 // The blocks of Messages begin at byte 7. A count of 0 is a heartbeat: its number is the next to be sent.
-#[derive(Drop)]
+#[derive(Clone, Copy)]
 pub enum Down {
     Refused(u8),
     Accept { session: Name, next: Sequence },

@@ -1,2 +1,3 @@
 // UFO 1.0, server to client: packets read.
+#![tactic(auto)]
 pub mod down;

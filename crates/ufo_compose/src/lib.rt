@@ -1,4 +1,5 @@
 // UFO, client to server: a packet composed message by message in lent output.
+#![tactic(auto)]
 ghost use Rattle.std.specs.Prelude.{◌≡◌, length};
 ghost use Rattle.wire.specs.Checks.{◌at_most◌};
 ghost use Rattle.wire.specs.Reply.{Settled};
@@ -15,7 +16,7 @@ use wire::output::Written;
 use wire::refusal;
 
 // A message to be added. What an unsequenced one carries is lent beside it.
-#[derive(Drop)]
+#[derive(Clone, Copy)]
 pub enum Message {
     Login {
         user: User,

@@ -11,14 +11,14 @@ use wire::kinds::{Name, Password, Sequence, User};
 use wire::{fields, refusal};
 
 // A whole packet: how many messages it has.
-#[derive(Drop)]
+#[derive(Clone, Copy)]
 pub enum Upstream {
     Refused(u8),
     Messages(usize),
 }
 
 // One message: its fields, and the place where the next one stands.
-#[derive(Drop)]
+#[derive(Clone, Copy)]
 pub enum Up {
     Refused(u8),
     Login {

@@ -1,18 +1,20 @@
 // A walker keeps hold of a datagram and its place in it, and hands out one block after another.
+#![tactic(auto)]
+
 ghost use Rattle.std.specs.Prelude.{◌≡◌};
 ghost use Rattle.blocks.specs.Blocks.{block_at};
 ghost use Rattle.walker.specs.Walker.{after, moved};
 
 use blocks::Block;
 
-#[derive(Drop)]
+#[derive(Clone, Copy)]
 pub struct Walker<'a> {
     pub datagram: &'a [u8],
     pub place: usize,
 }
 
 // A block, and the place where the walker stands once it has handed it out.
-#[derive(Drop)]
+#[derive(Clone, Copy)]
 struct Visit {
     block: Block,
     after: usize,

@@ -84,21 +84,10 @@ pub replaced : (packet out : List ℕ) → length packet ≡ length out → sets
 replaced packet out h =
     rw (stored packet out (omega arith), drop_of_length-le out {i = length packet} (omega arith), append-nil)
 
--- a part of src copied to the front of the part of out that begins at the place `at` is stored at that place
-module _ (out src : List ℕ) (at from len : ℕ) (h : at + len ≤ length out) (k : from + len ≤ length src) where
-  abbrev rest : List ℕ
-  rest = mid_of at (length out - at) out
-
-  abbrev part : List ℕ
-  part = mid_of from (from + len - from) src
-
-  pub copied : (last : List ℕ) → last ≡ take (length part) part ++ drop (length part) rest → put_mid at (length out - at) out last ≡ sets
-      out at (take len (drop from src))
-  copied last e =
-      let s = take len (drop from src) in
-      let l : length s ≡ len = length_part from len src k in
-      let same : part ≡ s = rw (add-sub_cancel_left from len) in
-      let whole : rest ≡ drop at out = take_all (length out - at) (drop at out) (rw length-drop (omega arith)) in
-      let none : drop (length out - at) (drop at out) ≡ [] = drop_of_length-le (drop at out) {i = length out - at}
-      (rw length-drop (omega arith)) in
-      rw (e, same, take-length, whole, none, append-nil, drop-drop, sets-eq s out at (omega arith), append_assoc)
+-- a part of src copied over the part of out that begins at the place `at` is stored at that place
+pub copied : (out src : List ℕ) (at from len : ℕ) → at + len ≤ length out → from + len ≤ length src → (last : List ℕ)
+    → last ≡ take (from + len - from) (drop from src) → put_mid at (at + len - at) out last ≡ sets out at (take len (drop from src))
+copied out src at from len h k last e =
+    let s = take len (drop from src) in
+    let l : length s ≡ len = length_part from len src k in
+    rw (e, add-sub_cancel_left from len, add-sub_cancel_left at len, sets-eq s out at (omega arith), l, drop-drop, append_assoc)

@@ -1,25 +1,25 @@
 // The kinds: numbers that can't stand for one another.
 
 // A sequence number. The first message is 1.
-#[derive(Drop)]
+#[derive(Clone, Copy)]
 pub struct Sequence(pub u64);
 
 // Ten bytes of text: the first two and the last eight, each read as one big-endian number.
-#[derive(Drop)]
+#[derive(Clone, Copy)]
 pub struct Name(pub u16, pub u64);
 
 // A password: ten bytes of text that can't stand where a session's name belongs.
-#[derive(Drop)]
+#[derive(Clone, Copy)]
 pub struct Password(pub Name);
 
 // Six bytes of text: the first two and the last four.
-#[derive(Drop)]
+#[derive(Clone, Copy)]
 pub struct User(pub u16, pub u32);
 
 // A MEMX session.
-#[derive(Drop)]
+#[derive(Clone, Copy)]
 pub struct SessionId(pub u64);
 
 // A reading of the clock, in whole milliseconds.
-#[derive(Drop)]
+#[derive(Clone, Copy)]
 pub struct Tick(pub u64);

@@ -1,4 +1,6 @@
 // The words of the wire: kinds, refusal numbers, sizes, fields, and what is laid into lent output.
+#![tactic(auto)]
+
 pub mod datagram;
 pub mod fields;
 pub mod kinds;

@@ -3,7 +3,7 @@ ghost use Rattle.std.specs.Prelude.{◌≡◌, ◌+◌, ◌≤◌, length, take,
 ghost use Rattle.std.proofs.lemmas.List.Edits.{sets};
 
 // What a writer answers: the refusal's number, or how many bytes it wrote.
-#[derive(Drop)]
+#[derive(Clone, Copy)]
 pub enum Written {
     Refused(u8),
     Bytes(usize),
@@ -14,5 +14,5 @@ pub fn copy(out: &mut [u8], at: usize, src: &[u8], from: usize, len: usize)
     requires { (at + len ≤ length out.old) × (from + len ≤ length src.now) }
     ensures { out.new ≡ sets out.old at (take len (drop from src.now)) }
 {
-    bytes::copy(&src[from..from + len], &mut out[at..]);
+    out[at..at + len].copy_from_slice(&src[from..from + len]);
 }

@@ -7,7 +7,7 @@ use lib.ListN.{length}
 use Rattle.wire.specs.Datagram.{limit}
 use Rattle.wire.proofs.Settling.{refuses, settled-by}
 use Rattle.wire.proofs.Tests.{held, failed}
-use Rattle.log.specs.Log.{hangs}
+use Rattle.lent_log.specs.Log.{hangs}
 use Rattle.lend.specs.Answer.{answer_reply}
 use Rattle.lend.proofs.Replies.{answers-packed, answers-end, answers-beat}
 use Rattle.lend.proofs.answer.Statement.{statement}

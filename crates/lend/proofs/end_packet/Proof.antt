@@ -7,7 +7,7 @@ use borrow.Author.Tests.{not-true, not-false}
 use lib.ListN.{length}
 use Rattle.wire.proofs.Settling.{refuses, settled-by}
 use Rattle.wire.proofs.Tests.{held, failed}
-use Rattle.log.specs.Log.{hangs}
+use Rattle.lent_log.specs.Log.{hangs}
 use Rattle.lend.specs.Answer.{end_packet_reply}
 use Rattle.lend.proofs.Replies.{replies-end}
 use Rattle.lend.proofs.end_packet.Statement.{statement}

@@ -7,9 +7,9 @@ use borrow.Author.Rules.{rules}
 use lib.ListN.{length}
 use Rattle.wire.proofs.Settling.{refuses, settled-by}
 use Rattle.wire.proofs.Tests.{held, failed}
-use Rattle.log.specs.Log.{hangs}
+use Rattle.lent_log.specs.Log.{hangs}
 use Rattle.lend.specs.Answer.{heartbeat_reply}
-use Rattle.log.proofs.Hanging.{hanging}
+use Rattle.lent_log.proofs.Hanging.{hanging}
 use Rattle.lend.proofs.Replies.{replies-beat}
 use Rattle.lend.proofs.heartbeat.Statement.{statement}
 use Rattle.lend.proofs.heartbeat.Tie as tie

@@ -5,7 +5,7 @@ use native.Mathlib.Omega.{arith}
 use borrow.Author.Rules.{rules}
 use Rattle.blocks.proofs.NextBlock.{Stands, found, missed}
 use Rattle.lend.specs.Answer.{run}
-use Rattle.log.proofs.Passes.{turn}
+use Rattle.lent_log.proofs.Passes.{turn}
 use Rattle.lend.proofs.Measuring.{run_on, run-torn, run-full, run-done}
 use Rattle.lend.proofs.measure.Statement.{statement}
 use Rattle.lend.proofs.measure.Tie as tie

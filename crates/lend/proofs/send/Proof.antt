@@ -3,7 +3,7 @@ use borrow.Author.Rules.{rules}
 use lib.ListN.{length}
 use lib.Seq.{length-take-le}
 use Rattle.wire.proofs.Settling.{settled-by}
-use Rattle.log.proofs.Hanging.{hanging}
+use Rattle.lent_log.proofs.Hanging.{hanging}
 use Rattle.lend.proofs.Packing.{Sent, sent, never-refused}
 use Rattle.lend.proofs.send.Statement.{statement}
 use Rattle.lend.proofs.send.Tie as tie
