@@ -2,7 +2,7 @@
 use Prim.Native.Nat.{◌-◌}
 use mathlib.Core.Path.{refl, sym, ◌∙◌}
 use native.Mathlib.Omega.{arith}
-use Rattle.held.specs.Hanging.{every, fits}
+use Rattle.held.specs.Hanging.{fits}
 use Rattle.held.proofs.Going.{every-step, every-fails, every-none, none_left, free-fits, short-fits, overlong}
 use Rattle.held.proofs.hanging.fits.Goals as goal
 

@@ -31,17 +31,17 @@ loop-ahead-init c = (omega arith, in-place-is _ _ _)
 pub returns-then-ahead-eq0 : goal.returns-then-ahead-eq0
 returns-then-ahead-eq0 c =
     let a = c.args in
-    out-of-place at (own-slot a.held a.next a.top _ (full-so (goal.at.returns-then-ahead-eq0 c).Then-is_ahead_full) c.if-ahead-eq0.true)
+    out-of-place (goal.at.returns-then-ahead-eq0 c).Then-is_ahead_full (own-slot a.held a.next a.top _ (full-so (goal.at.returns-then-ahead-eq0 c).Then-is_ahead_full) c.if-ahead-eq0.true)
 
 pub returns-then-top-next : goal.returns-then-top-next
 returns-then-top-next c =
     let a = c.args in
-    out-of-place at (above-top a.held a.next a.top _ (full-so (goal.at.returns-then-top-next c).Then-is_ahead_full) (omega (arith, c.if-top-next.true)))
+    out-of-place (goal.at.returns-then-top-next c).Then-is_ahead_full (above-top a.held a.next a.top _ (full-so (goal.at.returns-then-top-next c).Then-is_ahead_full) (omega (arith, c.if-top-next.true)))
 
 pub returns-then-top-next-2 : goal.returns-then-top-next-2
 returns-then-top-next-2 c =
     let a = c.args in
-    out-of-place at (above-top a.held a.next a.top _ (full-so (goal.at.returns-then-top-next-2 c).Then-is_ahead_full) (omega (arith, c.if-top-next-2.true, c.if-top-next.false)))
+    out-of-place (goal.at.returns-then-top-next-2 c).Then-is_ahead_full (above-top a.held a.next a.top _ (full-so (goal.at.returns-then-top-next-2 c).Then-is_ahead_full) (omega (arith, c.if-top-next-2.true, c.if-top-next.false)))
 
 pub loop-ahead-preserved-else-top-next-2 : goal.loop-ahead-preserved-else-top-next-2
 loop-ahead-preserved-else-top-next-2 c =

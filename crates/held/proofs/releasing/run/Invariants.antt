@@ -2,7 +2,6 @@ use Prim.Native.Nat.{◌+◌, ◌-◌, ◌≤◌, ◌<◌}
 use mathlib.Core.Path.{◌≡◌}
 use Rattle.held.specs.Slots.{slot_of}
 use Rattle.held.specs.Releasing.{run}
-use Rattle.wire.proofs.Tests.{held}
 use Rattle.held.proofs.releasing.run.Given as goal
 
 abbrev pub invariant-loop-left : goal.invariant-loop-left

@@ -2,7 +2,6 @@
 use Prim.Native.Nat.{ℕ, ◌+◌, ◌-◌, ◌%◌, ◌≤◌}
 use mathlib.Core.Path.{◌≡◌, ap, sym, ◌∙◌}
 use native.Mathlib.Omega.{arith}
-use lib.ListN.{length}
 use Rattle.wire.specs.Fields.{Bytes}
 use Rattle.blocks.specs.Blocks.{stated}
 use Rattle.held.specs.Slots.{longest, slot_of, slot_at}
