@@ -1,5 +1,6 @@
 // One packet or message, laid flat: the fields that its type lacks are 0.
 #![tactic(auto)]
+
 pub mod fitting;
 
 ghost use Rattle.std.specs.Prelude.{◌≡◌, ◌-◌};
