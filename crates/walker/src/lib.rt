@@ -34,7 +34,7 @@ pub fn step<'a>(w: Walker<'a>) -> Block
     blocks::next(w.datagram, w.place)
 }
 
-// The branch between a block and a refusal is here, so that `pull`, which is proved by hand, has none.
+// The branch between a block and a refusal is here, so that `pull` has none.
 fn visit_at(s: &[u8], place: usize) -> Visit
     ensures { (result.block ≡ block_at s.now place) × (result.after ≡ after (block_at s.now place) place) }
 {
@@ -61,7 +61,7 @@ pub fn pull<'s, 'a>(w: &'s mut Walker<'a>) -> Block
     v.block
 }
 
-// The block at a place, through a walker. A caller holds none, so its proof needs no walk by hand.
+// The block at a place, through a walker. A caller holds none.
 pub fn block_at(s: &[u8], place: usize) -> Block
     ensures { result ≡ block_at s.now place }
 {
