@@ -1,5 +1,5 @@
 -- `characters` meets its contract: from the last place on, the digits stored so far are those of the number, and spaces stand before them.
-use Rattle.std.proofs.Common.{◌≡◌, suc, ◌-◌, refl, ◌∙◌, arith}
+use Rattle.std.proofs.Common.{◌≡◌, ◌≤◌, suc, ◌-◌, refl, ◌∙◌, arith}
 use Rattle.decimal.proofs.Stored.{last_stored, all-stored, next-stored, next-rest, room}
 use Rattle.decimal.proofs.characters.Goals as goal
 
@@ -19,11 +19,11 @@ pub bounds-s-i : goal.bounds-s-i
 bounds-s-i c = omega arith
 
 pub loop-rest-smaller : goal.loop-rest-smaller
-loop-rest-smaller c = let p = sub-i c in omega arith
+loop-rest-smaller c = let p : 1 ≤ c.loop-rest.i = room _ _ _ c.loop-rest.invariant.0 c.loop-rest.invariant.1 c.loop-rest-test.true (omega arith) in omega arith
 
 pub loop-rest-preserved : goal.loop-rest-preserved
 loop-rest-preserved c =
-    let p = sub-i c in
+    let p : 1 ≤ c.loop-rest.i = room _ _ _ c.loop-rest.invariant.0 c.loop-rest.invariant.1 c.loop-rest-test.true (omega arith) in
     let e : c.loop-rest.i ≡ suc (c.loop-rest.i - 1) = omega arith in (
       omega arith,
       next-rest _ _ _ c.loop-rest.invariant.0 c.loop-rest.invariant.1 c.loop-rest-test.true _ e,

@@ -30,9 +30,9 @@ returns-then-not-are_spaces c =
 
 pub returns-then-tail-eq0 : goal.returns-then-tail-eq0
 returns-then-tail-eq0 c =
-    sym (none _ _ c.if-s-ne20.left c.tail_of-tail.ensures.0 c.tail_of-tail.ensures.1 (held c.are_spaces.ensures c.if-not-are_spaces.false-raw) c.if-tail-eq0.true)
+    sym (none _ _ c.if-s-ne20.false c.tail_of-tail.ensures.0 c.tail_of-tail.ensures.1 (held c.are_spaces.ensures c.if-not-are_spaces.false-raw) c.if-tail-eq0.true)
 
 pub returns : goal.returns
 returns c =
-    ap Is c.tail_of-tail.ensures.2 ∙ sym (number _ _ c.if-s-ne20.left c.tail_of-tail.ensures.0 c.tail_of-tail.ensures.1 (held c.are_spaces.ensures c.if-not-are_spaces.false-raw)
+    ap Is c.tail_of-tail.ensures.2 ∙ sym (number _ _ c.if-s-ne20.false c.tail_of-tail.ensures.0 c.tail_of-tail.ensures.1 (held c.are_spaces.ensures c.if-not-are_spaces.false-raw)
     (pos_of_ne-zero c.if-tail-eq0.false))

@@ -1,5 +1,5 @@
 -- `tail_of` keeps, turn by turn: the last k characters are digits, and what they come to is counted.
-use Rattle.std.proofs.Common.{true, get_or, ◌∙◌, arith}
+use Rattle.std.proofs.Common.{get_or, ◌∙◌, arith}
 use borrow.Author.Tests.{lt-leb}
 use Rattle.decimal.proofs.Powers.{powers, power_at}
 use Rattle.decimal.proofs.Ends.{none_yet, Turn, turn}
@@ -33,10 +33,10 @@ pub bounds-powers-k : goal.bounds-powers-k
 bounds-powers-k c = omega arith
 
 pub overflow_mul-value : goal.overflow_mul-value
-overflow_mul-value c = omega (arith, (this-turn c).ranges)
+overflow_mul-value c = omega (arith, (this-turn c).fits)
 
 pub overflow_add-value : goal.overflow_add-value
-overflow_add-value c = omega (arith, (this-turn c).ranges)
+overflow_add-value c = omega (arith, (this-turn c).fits)
 
 pub overflow_add-k : goal.overflow_add-k
 overflow_add-k c = omega arith
