@@ -1,5 +1,6 @@
 // What is missing: the ranges of the numbers from N to T that are not held. Numbers are counted from N here, since N+31 may not fit.
 #![tactic(auto)]
+
 ghost use Rattle.std.specs.Prelude.{◌≡◌, false, ◌+◌, ◌≤◌, length};
 ghost use Rattle.missing.specs.Missing.{is_held, missing, ◌at◌};
 ghost use Rattle.missing.specs.Runs.{LastOf, PastHeld};

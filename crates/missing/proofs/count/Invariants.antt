@@ -1,0 +1,15 @@
+use Prim.Native.Nat.{◌+◌, ◌-◌, ◌*◌, ◌≤◌}
+use mathlib.Core.Path.{◌≡◌}
+use mathlib.Core.Bool.{false}
+use lib.ListN.{length}
+use Rattle.missing.specs.Missing.{is_held, missing}
+use Rattle.missing.proofs.Walking.{rest}
+use Rattle.missing.proofs.count.Given as goal
+
+abbrev pub invariant-loop-first : goal.invariant-loop-first
+invariant-loop-first l =
+    (length (missing l.held l.next l.top) ≡ l.ranges + length (rest (is_held l.held l.next) l.next (l.top - l.next) l.first)) × (2 * l.ranges ≤ l.first)
+    × (l.first ≤ 32) × (is_held l.held l.next (l.next + l.first) ≡ false)
+
+abbrev pub decreases-loop-first : goal.decreases-loop-first
+decreases-loop-first l = 32 - l.first
