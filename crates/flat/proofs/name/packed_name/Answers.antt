@@ -1,0 +1,11 @@
+use mathlib.Core.Path.{ap, ◌∙◌}
+use native.Mathlib.Omega.{arith}
+use lib.Seq.{take_all}
+use Rattle.names.proofs.Packing.{name-written}
+use Rattle.names.specs.Names.{name_bytes}
+use Rattle.flat.proofs.name.packed_name.Goals as goal
+
+pub returns : goal.returns
+returns c =
+    let t = c.args.text.now in
+    (c.get_name.ensures, ap name_bytes c.get_name.ensures ∙ name-written t (λ i. (c.type_inv.text i).fits) (omega arith) ∙ take_all 10 t (omega arith))
