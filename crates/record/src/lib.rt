@@ -1,5 +1,6 @@
 // The session record: what a receiver knows of one session.
 #![tactic(auto)]
+
 pub mod hangs;
 pub mod open;
 pub mod standing;
