@@ -1,5 +1,6 @@
 // MEMX-UDP: packets laid into lent output, from its start.
 #![tactic(auto)]
+
 ghost use Rattle.std.specs.Prelude.{◌≡◌, [], ◌+◌, ◌≤◌, length};
 ghost use Rattle.std.proofs.lemmas.List.Edits.{sets};
 ghost use Rattle.wire.specs.Reply.{Settled};
