@@ -1,5 +1,6 @@
 // What to ask now.
 #![tactic(auto)]
+
 ghost use Rattle.std.specs.Prelude.{◌≡◌, ◌≤◌};
 ghost use Rattle.wire.specs.Checks.{taken};
 ghost use Rattle.asking.specs.Asking.{request_of, wish, asking, asked_of};
