@@ -1,4 +1,5 @@
 // SoupTCP 3.00: its packets, read.
 #![tactic(auto)]
+
 pub mod line;
 pub mod reading;
