@@ -10,49 +10,38 @@ use flat_record::opening::FlatOpened;
 use flat_record::requesting::FlatAsked;
 use flat_record::{keeping, opening, requesting};
 
-#[unsafe(no_mangle)]
-pub extern "C" fn hp_open_ufo(name: &[u8; 10]) -> FlatOpened
+pub fn hp_open_ufo(name: &[u8; 10]) -> FlatOpened
     ensures { result ≡ open_ufo name.now }
 {
     opening::open_ufo(name)
 }
 
-#[unsafe(no_mangle)]
-pub extern "C" fn hp_open_memx(session: u64) -> FlatOpened
+pub fn hp_open_memx(session: u64) -> FlatOpened
     ensures { result ≡ open_memx session }
 {
     opening::open_memx(session)
 }
 
-#[unsafe(no_mangle)]
-pub extern "C" fn hp_take(
-    given: FlatRecord,
-    area: &mut [u8],
-    datagram: &[u8],
-    out: &mut [u8],
-) -> FlatTaken
+pub fn hp_take(given: FlatRecord, area: &mut [u8], datagram: &[u8], out: &mut [u8]) -> FlatTaken
     ensures { FlatAnswered (take_verdict given area.old datagram.now (length out.old))
         given area.old out.old result area.new out.new }
 {
     keeping::take(given, area, datagram, out)
 }
 
-#[unsafe(no_mangle)]
-pub extern "C" fn hp_standing_of(given: FlatRecord) -> FlatStanding
+pub fn hp_standing_of(given: FlatRecord) -> FlatStanding
     ensures { result ≡ standing_answer given }
 {
     keeping::standing_of(given)
 }
 
-#[unsafe(no_mangle)]
-pub extern "C" fn hp_missing_range(given: FlatRecord, place: u64) -> FlatRange
+pub fn hp_missing_range(given: FlatRecord, place: u64) -> FlatRange
     ensures { result ≡ range_answer given place }
 {
     keeping::missing_range(given, place)
 }
 
-#[unsafe(no_mangle)]
-pub extern "C" fn hp_ask(
+pub fn hp_ask(
     given: FlatRecord,
     sheet: FlatSheet,
     patience: FlatPatience,

@@ -1,5 +1,6 @@
-// The face: hinurapay.h as a static library, each function that of a flat room under the header's name.
+// The face: the functions of hinurapay.h, each that of a flat room under the header's name. The room `hinurapay_c` exports them to C.
 #![tactic(auto)]
+
 pub mod keeping;
 pub mod lending;
 pub mod pieces;

@@ -12,50 +12,43 @@ use flat::block::FlatBlock;
 use flat_packet::Read;
 use flat_tcp::FlatTcpReading;
 
-#[unsafe(no_mangle)]
-pub extern "C" fn hp_soup_read(packet: &[u8]) -> Read
+pub fn hp_soup_read(packet: &[u8]) -> Read
     ensures { result ≡ soup_read packet.now }
 {
     flat_soup::read(packet)
 }
 
-#[unsafe(no_mangle)]
-pub extern "C" fn hp_ufo_read_down(packet: &[u8]) -> Read
+pub fn hp_ufo_read_down(packet: &[u8]) -> Read
     ensures { result ≡ down_read packet.now }
 {
     flat_ufo::read(packet)
 }
 
-#[unsafe(no_mangle)]
-pub extern "C" fn hp_ufo_read_up(packet: &[u8]) -> Read
+pub fn hp_ufo_read_up(packet: &[u8]) -> Read
     ensures { result ≡ up_read packet.now }
 {
     flat_ufo_up::read(packet)
 }
 
-#[unsafe(no_mangle)]
-pub extern "C" fn hp_ufo_read_message(packet: &[u8], place: u64) -> Read
+pub fn hp_ufo_read_message(packet: &[u8], place: u64) -> Read
     ensures { result ≡ message_read packet.now place }
 {
     flat_ufo_up::read_message(packet, place)
 }
 
-#[unsafe(no_mangle)]
-pub extern "C" fn hp_memx_read(packet: &[u8]) -> Read
+pub fn hp_memx_read(packet: &[u8]) -> Read
     ensures { result ≡ memx_read packet.now }
 {
     flat_memx::read(packet)
 }
 
-#[unsafe(no_mangle)]
-pub extern "C" fn hp_tcp_read(packet: &[u8]) -> FlatTcpReading
+pub fn hp_tcp_read(packet: &[u8]) -> FlatTcpReading
     ensures { result ≡ tcp_read packet.now }
 {
     flat_tcp::read(packet)
 }
 
-#[unsafe(no_mangle)]
-pub extern "C" fn hp_next_block(bytes: &[u8], place: u64) -> FlatBlock
+pub fn hp_next_block(bytes: &[u8], place: u64) -> FlatBlock
     ensures { result ≡ next_block bytes.now place }
 {
     block::next_block(bytes, place)

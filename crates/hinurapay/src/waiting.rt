@@ -4,29 +4,25 @@ ghost use Rattle.flat_clock.specs.Waiting.{time_answer, wait_answer, line_lost, 
 
 use flat_clock::{FlatPatience, FlatSaid, FlatSheet, FlatTimed, FlatWait};
 
-#[unsafe(no_mangle)]
-pub extern "C" fn hp_time(sheet: FlatSheet, sample: f64) -> FlatTimed
+pub fn hp_time(sheet: FlatSheet, sample: f64) -> FlatTimed
     ensures { result ≡ time_answer sheet sample }
 {
     flat_clock::time(sheet, sample)
 }
 
-#[unsafe(no_mangle)]
-pub extern "C" fn hp_wait_of(sheet: FlatSheet, patience: FlatPatience) -> FlatWait
+pub fn hp_wait_of(sheet: FlatSheet, patience: FlatPatience) -> FlatWait
     ensures { result ≡ wait_answer sheet patience }
 {
     flat_clock::wait_of(sheet, patience)
 }
 
-#[unsafe(no_mangle)]
-pub extern "C" fn hp_line_lost(now: u64, heard: u64) -> FlatSaid
+pub fn hp_line_lost(now: u64, heard: u64) -> FlatSaid
     ensures { result ≡ line_lost now heard }
 {
     flat_clock::line_lost(now, heard)
 }
 
-#[unsafe(no_mangle)]
-pub extern "C" fn hp_heartbeat_due(now: u64, sent: u64) -> FlatSaid
+pub fn hp_heartbeat_due(now: u64, sent: u64) -> FlatSaid
     ensures { result ≡ heartbeat_due now sent }
 {
     flat_clock::heartbeat_due(now, sent)

@@ -12,53 +12,42 @@ use flat::wrote::Wrote;
 use flat_packet::Packet;
 use flat_tcp::FlatTcp;
 
-#[unsafe(no_mangle)]
-pub extern "C" fn hp_soup_write(fields: Packet, body: &[u8], out: &mut [u8]) -> Wrote
+pub fn hp_soup_write(fields: Packet, body: &[u8], out: &mut [u8]) -> Wrote
     ensures { FlatSettled (soup_reply fields body.now (length out.old))
         out.old result out.new }
 {
     flat_soup::write(fields, body, out)
 }
 
-#[unsafe(no_mangle)]
-pub extern "C" fn hp_ufo_write_down(fields: Packet, body: &[u8], out: &mut [u8]) -> Wrote
+pub fn hp_ufo_write_down(fields: Packet, body: &[u8], out: &mut [u8]) -> Wrote
     ensures { FlatSettled (down_reply fields body.now (length out.old))
         out.old result out.new }
 {
     flat_ufo::write(fields, body, out)
 }
 
-#[unsafe(no_mangle)]
-pub extern "C" fn hp_ufo_write_message(fields: Packet, body: &[u8], out: &mut [u8]) -> Wrote
+pub fn hp_ufo_write_message(fields: Packet, body: &[u8], out: &mut [u8]) -> Wrote
     ensures { FlatSettled (message_reply fields body.now (length out.old))
         out.old result out.new }
 {
     flat_ufo_up::write_message(fields, body, out)
 }
 
-#[unsafe(no_mangle)]
-pub extern "C" fn hp_ufo_add_message(
-    fields: Packet,
-    body: &[u8],
-    out: &mut [u8],
-    used: u64,
-) -> Wrote
+pub fn hp_ufo_add_message(fields: Packet, body: &[u8], out: &mut [u8], used: u64) -> Wrote
     ensures { FlatSettled (add_flat fields body.now out.old used)
         out.old result out.new }
 {
     flat_compose::add(fields, body, out, used)
 }
 
-#[unsafe(no_mangle)]
-pub extern "C" fn hp_memx_write(fields: Packet, extra: &[u8], body: &[u8], out: &mut [u8]) -> Wrote
+pub fn hp_memx_write(fields: Packet, extra: &[u8], body: &[u8], out: &mut [u8]) -> Wrote
     ensures { FlatSettled (memx_reply fields extra.now body.now (length out.old))
         out.old result out.new }
 {
     flat_memx::write(fields, extra, body, out)
 }
 
-#[unsafe(no_mangle)]
-pub extern "C" fn hp_tcp_write(fields: FlatTcp, body: &[u8], out: &mut [u8]) -> Wrote
+pub fn hp_tcp_write(fields: FlatTcp, body: &[u8], out: &mut [u8]) -> Wrote
     ensures { FlatSettled (tcp_reply fields body.now (length out.old))
         out.old result out.new }
 {
