@@ -45,7 +45,8 @@ unfolding read_each
 write-each [] b ms e = let q : [] ≡ ms = cc in rw (← q) (tt, refl)
 write-each (s ∷ bs) b ms e = by (read_message s) refl (read_each bs) refl (write-each bs b.1) where
   by : (v : Verdict Message) → read_message s ≡ v → (w : Verdict (List Message)) → read_each bs ≡ w
-      → ((os : List Message) → read_each bs ≡ taken os → FitAll os × (map write_message os ≡ bs)) → FitAll ms × (map write_message ms ≡ s ∷ bs)
+      → ((os : List Message) → read_each bs ≡ taken os → FitAll os × (map write_message os ≡ bs))
+      → FitAll ms × (map write_message ms ≡ s ∷ bs)
   by (refused n) p w q more = not-both (read_each (s ∷ bs)) n ms (rw p refl) e
   by (taken m) p (refused n) q more = not-both (read_each (s ∷ bs)) n ms (rw (p, q) refl) e
   by (taken m) p (taken os) q more =

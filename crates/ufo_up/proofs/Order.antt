@@ -14,7 +14,8 @@ use Rattle.wire.proofs.Checks.{into-checked}
 use Rattle.blocks.specs.Blocks.{Cut, torn, whole, upstream, is_whole, messages_of}
 use Rattle.blocks.proofs.Cutting.{not-torn}
 use Rattle.ufo_up.specs.Up.{Message, login, request, unsequenced, heartbeat, logout, kind, user_l, password_l, session_l, checks_l, read_l}
-use Rattle.ufo_up.specs.Up.{first_t, count_t, checks_t, read_t, checks_u, read_u, checks_alone, read_alone, read_message, read_each, read_cut}
+use Rattle.ufo_up.specs.Up.{first_t, count_t, checks_t, read_t, checks_u, read_u, checks_alone, read_alone}
+use Rattle.ufo_up.specs.Up.{read_message, read_each, read_cut}
 use Rattle.ufo_up.specs.Up.{read_up}
 use Rattle.ufo_up.proofs.UpPacket.{opened, each_append}
 

@@ -67,7 +67,8 @@ module _ (d : List ℕ) (bytes : Bytes d) (place at : ℕ) (r : Reaches d place 
   pub reaches-out : (n : ℕ) → block_at d at ≡ block.Refused n → message_in d place ≡ refused n
   unfolding message_from
   reaches-out n f = by r.others r.read r.answer where
-    by : (b : List Message) → read_up d ≡ taken (r.gone ++ b) → message_in d place ≡ message_from at b place → message_in d place ≡ refused n
+    by : (b : List Message) → read_up d ≡ taken (r.gone ++ b) → message_in d place ≡ message_from at b place
+        → message_in d place ≡ refused n
     by [] e q = rw (missed d at n f).0 q
     by (m ∷ b) e q =
         not-both (message_at d at) 4 m (over-at d at (missed d at n f).1) (rw r.reached (read-there d bytes r.gone m b e).0)
@@ -78,7 +79,8 @@ module _ (d : List ℕ) (bytes : Bytes d) (place at : ℕ) (r : Reaches d place 
   pub reaches_here : at ≡ place → message_in d place ≡ message_at d place
   unfolding message_from
   reaches_here h = rw (← h) (by r.others r.read r.answer) where
-    by : (b : List Message) → read_up d ≡ taken (r.gone ++ b) → message_in d place ≡ message_from at b place → message_in d at ≡ message_at d at
+    by : (b : List Message) → read_up d ≡ taken (r.gone ++ b) → message_in d place ≡ message_from at b place
+        → message_in d at ≡ message_at d at
     by [] e q = rw (over-at d at (at-end e)) (rw (← h) at q)
     by (m ∷ b) e q =
         let t : message_at d at ≡ taken m = rw r.reached (read-there d bytes r.gone m b e).0 in

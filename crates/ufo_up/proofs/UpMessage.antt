@@ -28,7 +28,8 @@ module _ (m : List ℕ) where
   is_none l t u r o =
       rw (ne_eqb (kind m) 76 l, ne_eqb (kind m) 84 t, ne_eqb (kind m) 85 u, ne_eqb (kind m) 82 r, ne_eqb (kind m) 79 o)
 
-  pub alone : (said : Message) (next : ℕ) → (if length m is 1 then up_of next (taken said) else up.Refused 4) ≡ up_of next (read_alone said m)
+  pub alone : (said : Message) (next : ℕ)
+      → (if length m is 1 then up_of next (taken said) else up.Refused 4) ≡ up_of next (read_alone said m)
   unfolding read_alone
   alone said next = by (length m is 1) where
     by : (b : Bool) → (if b then up_of next (taken said) else up.Refused 4) ≡ up_of next (if b then taken said else refused 4)

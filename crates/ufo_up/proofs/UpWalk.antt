@@ -137,7 +137,8 @@ module _ (d : List ℕ) (at k : ℕ) (f : Framed d (messages_of (upstream d))) (
           omega arith,
         )
 
-    pub reached-stop : (n : ℕ) → next_of (up_of (end_at d at) (message_at d at)) ≡ place.Refused n → packet.Refused n ≡ upstream_of (read_each bs)
+    pub reached-stop : (n : ℕ) → next_of (up_of (end_at d at) (message_at d at)) ≡ place.Refused n
+        → packet.Refused n ≡ upstream_of (read_each bs)
     reached-stop n e =
         sym (r.answer ∙ counted_stop bs k another n (sym same-message ∙ stopped (end_at d at) (message_at d at) n e))
 

@@ -3,7 +3,8 @@ ghost use Rattle.std.specs.Prelude.{◌≡◌, true, ◌≤◌, ◌<◌, length}
 ghost use Rattle.wire.specs.Checks.{if◌then◌else◌, ◌is◌};
 ghost use Rattle.wire.specs.Datagram.{limit};
 ghost use Rattle.blocks.specs.Blocks.{upstream, is_whole, messages_of, end_at};
-ghost use Rattle.ufo_up.specs.Up.{read_l, read_t, read_u, read_each, read_up, message_at, message_in, upstream_of, up_of, next_of, is_taken};
+ghost use Rattle.ufo_up.specs.Up.{read_l, read_t, read_u, read_each, read_up, message_at, message_in};
+ghost use Rattle.ufo_up.specs.Up.{upstream_of, up_of, next_of, is_taken};
 
 use blocks::{Block, Count, Place};
 use wire::datagram::LIMIT;

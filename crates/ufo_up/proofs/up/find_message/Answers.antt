@@ -2,19 +2,15 @@
 use Prim.Native.Nat.{◌<◌}
 use mathlib.Core.Path.{sym, ◌∙◌}
 use native.Mathlib.Omega.{arith}
-use Rattle.wire.specs.Fields.{Bytes}
 use Rattle.ufo_up.proofs.UpFinding.{Reaches, reaches-none, reaches_more, reaches-out, reaches-past, reaches_here}
-use Rattle.ufo_up.proofs.up.find_message.Goals.{After-shared_slice_known-1, In-At}
+use Rattle.ufo_up.proofs.up.find_message.Goals.{In-At}
 use Rattle.ufo_up.proofs.up.find_message.Goals as goal
-
-bytes : (c : After-shared_slice_known-1) → Bytes c.args.d.now
-bytes c i = (c.shared_slice_known-1.given i).fits
 
 -- a turn that went on
 onward : (c : In-At) → let a = c.args in Reaches a.d.now a.place c.in-At.next
     × (c.loop-at.at < c.in-At.next)
 onward c =
-    reaches_more c.args.d.now (bytes c) c.args.place c.loop-at.at c.loop-at.invariant
+    reaches_more c.args.d.now (λ i. (c.type_inv.d i).fits) c.args.place c.loop-at.at c.loop-at.invariant
     c.loop-at-test.true c.in-At.start c.in-At.length c.in-At.next (sym c.next.ensures ∙ c.in-At.is)
 
 pub loop-at-init : goal.loop-at-init
@@ -28,14 +24,14 @@ loop-at-preserved c = (onward c).0
 
 pub returns-in-Refused : goal.returns-in-Refused
 returns-in-Refused c =
-    rw (reaches-out c.args.d.now (bytes (goal.at.returns-in-Refused c).After-shared_slice_known-1) c.args.place c.loop-at.at c.loop-at.invariant c.in-Refused.n
+    rw (reaches-out c.args.d.now (λ i. (c.type_inv.d i).fits) c.args.place c.loop-at.at c.loop-at.invariant c.in-Refused.n
     (sym c.next.ensures ∙ c.in-Refused.is))
 
 pub returns-then-place-at : goal.returns-then-place-at
 returns-then-place-at c =
-    rw (reaches-past c.args.d.now (bytes (goal.at.returns-then-place-at c).After-shared_slice_known-1) c.args.place c.loop-at.at c.loop-at.invariant (omega arith))
+    rw (reaches-past c.args.d.now (λ i. (c.type_inv.d i).fits) c.args.place c.loop-at.at c.loop-at.invariant (omega arith))
 
 pub returns : goal.returns
 returns c =
-    rw (reaches_here c.args.d.now (bytes (goal.at.returns c).After-shared_slice_known-1) c.args.place c.loop-at.at c.loop-at.invariant (omega arith))
+    rw (reaches_here c.args.d.now (λ i. (c.type_inv.d i).fits) c.args.place c.loop-at.at c.loop-at.invariant (omega arith))
     c.message_at.ensures

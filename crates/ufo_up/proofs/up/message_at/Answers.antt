@@ -26,12 +26,14 @@ answered : (c : Else-length-eq0) → let a = c.args in
     → r ≡ up_of (end_at a.d.now a.place) (message_at a.d.now a.place)
 answered c r v e q =
     let a = c.args in
-    answers a.d.now a.place c.in-At.start c.in-At.length c.in-At.next (finds-at c) r v c.if-length-eq0.false e q
+    answers a.d.now a.place c.in-At.start c.in-At.length c.in-At.next
+    (finds a.d.now a.place c.in-At.start c.in-At.length c.in-At.next (sym c.next.ensures ∙ c.in-At.is)) r v c.if-length-eq0.false e q
 
 pub returns-then-length-eq0 : goal.returns-then-length-eq0
 returns-then-length-eq0 c =
     let a = c.args in
-    empty-at a.d.now a.place c.in-At.start c.in-At.length c.in-At.next (finds-at (goal.at.returns-then-length-eq0 c).In-At) c.if-length-eq0.true
+    empty-at a.d.now a.place c.in-At.start c.in-At.length c.in-At.next (finds-at (goal.at.returns-then-length-eq0 c).In-At)
+    c.if-length-eq0.true
 
 pub slice_bounds-m-count : goal.slice_bounds-m-count
 slice_bounds-m-count c = let f = finds-at (goal.at.slice_bounds-m-count c).In-At in omega arith
@@ -72,4 +74,5 @@ returns-in-79 c =
 
 pub returns-in_default : goal.returns-in_default
 returns-in_default c =
-    answered (goal.at.returns-in_default c).Else-length-eq0 _ (refused 3) refl (is_none _ c.in_default.rest.0.0.0.0.1 c.in_default.rest.0.0.0.1 c.in_default.rest.0.0.1 c.in_default.rest.0.1 c.in_default.rest.1)
+    let k = c.in_default.in_default-own.rest in
+    answered (goal.at.returns-in_default c).Else-length-eq0 _ (refused 3) refl (is_none _ k.0.0.0.0.1 k.0.0.0.1 k.0.0.1 k.0.1 k.1)

@@ -35,4 +35,5 @@ pub returns-in-Blocks : goal.returns-in-Blocks
 returns-in-Blocks c =
     let d = c.args.d.now in
     c.read_each.ensures
-    ∙ ap upstream_of (sym (opened d c.if-d-eq0.false c.if-d-gt-LIMIT.false ∙ whole-read (upstream d) (whole (goal.at.returns-in-Blocks c).In-Blocks)))
+    ∙ ap upstream_of (sym
+    (opened d c.if-d-eq0.false c.if-d-gt-LIMIT.false ∙ whole-read (upstream d) (whole (goal.at.returns-in-Blocks c).In-Blocks)))
