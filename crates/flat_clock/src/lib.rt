@@ -1,5 +1,6 @@
 // Timing answers, waiting for them, and silence.
 #![tactic(auto)]
+
 ghost use Rattle.std.specs.Prelude.{◌≡◌};
 ghost use Rattle.flat_clock.specs.Waiting.{sheet_of, flat_sheet, flat_timed, rule_of, flat_wait, flat_said, time_answer, wait_answer};
 ghost use Rattle.flat_clock.specs.Waiting.{line_lost, heartbeat_due};
