@@ -2,7 +2,7 @@
 ghost use Rattle.std.specs.Prelude.{◌<◌};
 
 use blocks::Block;
-use libc::STDOUT_FILENO;
+use std::io;
 use wire::kinds::{Name, Password, Sequence, User};
 use wire::output::Written;
 
@@ -18,21 +18,21 @@ const LONGEST_TEXT: usize = 40;
 // A longer packet is told by its first bytes.
 const LONGEST_PACKET: usize = 48;
 
-pub fn words(text: &[u8]) {
-    io::write_all(STDOUT_FILENO, text);
+pub fn words(rt: &impl Print, text: &[u8]) -> io::Result<()> {
+    rt.write_all(text)
 }
 
-pub fn digits(n: u64) {
-    io::print_decimal(STDOUT_FILENO, n);
+pub fn digits(rt: &impl Print, n: u64) -> io::Result<()> {
+    rt.print(n)
 }
 
-pub fn number(label: &[u8], n: u64) {
-    words(label);
-    digits(n);
+pub fn number(rt: &impl Print, label: &[u8], n: u64) -> io::Result<()> {
+    words(rt, label)?;
+    digits(rt, n)
 }
 
-pub fn refused(n: u8) {
-    number(b"\n= refused ", n as u64);
+pub fn refused(rt: &impl Print, n: u8) -> io::Result<()> {
+    number(rt, b"\n= refused ", n as u64)
 }
 
 fn glyph(digit: u8) -> u8
@@ -41,115 +41,134 @@ fn glyph(digit: u8) -> u8
     if digit < 10 { 48 + digit } else { 55 + digit }
 }
 
-fn byte(b: u8) {
-    words(&[glyph(b / 16), glyph(b % 16)]);
+fn byte(rt: &impl Print, b: u8) -> io::Result<()> {
+    words(rt, &[glyph(b / 16), glyph(b % 16)])
 }
 
-pub fn hex(s: &[u8]) {
+pub fn hex(rt: &impl Print, s: &[u8]) -> io::Result<()> {
     let mut at = 0;
     while at < s.len() {
-        byte(s[at]);
+        byte(rt, s[at])?;
         at += 1;
     }
+    Ok(())
 }
 
-pub fn text(label: &[u8], said: &[u8]) {
-    words(label);
+pub fn text(rt: &impl Print, label: &[u8], said: &[u8]) -> io::Result<()> {
+    words(rt, label)?;
     if LONGEST_TEXT < said.len() {
-        number(b" of ", said.len() as u64);
-        words(b" bytes");
-        return;
+        number(rt, b" of ", said.len() as u64)?;
+        return words(rt, b" bytes");
     }
-    words(b" \"");
-    words(said);
-    words(b"\"");
+    words(rt, b" \"")?;
+    words(rt, said)?;
+    words(rt, b"\"")
 }
 
 // Bytes that are no text are told in hexadecimal, unless there are too many.
-pub fn raw(label: &[u8], said: &[u8]) {
+pub fn raw(rt: &impl Print, label: &[u8], said: &[u8]) -> io::Result<()> {
     if LONGEST_TEXT < said.len() {
-        text(label, said);
-        return;
+        return text(rt, label, said);
     }
-    words(label);
-    words(b" ");
-    hex(said);
+    words(rt, label)?;
+    words(rt, b" ")?;
+    hex(rt, said)
 }
 
 // A text that stands at a place of a packet.
-pub fn part(label: &[u8], s: &[u8], start: usize, length: usize) {
+pub fn part(
+    rt: &impl Print,
+    label: &[u8],
+    s: &[u8],
+    start: usize,
+    length: usize,
+) -> io::Result<()> {
     if start <= s.len() {
         if length <= s.len() - start {
             let end = start + length;
-            text(label, &s[start..end]);
+            return text(rt, label, &s[start..end]);
         }
     }
+    Ok(())
 }
 
-pub fn name(label: &[u8], n: Name) {
+pub fn name(rt: &impl Print, label: &[u8], n: Name) -> io::Result<()> {
     let bytes = names::name_bytes(n);
-    text(label, &bytes);
+    text(rt, label, &bytes)
 }
 
-fn password(p: Password) {
-    name(b", password", p.0);
+fn password(rt: &impl Print, p: Password) -> io::Result<()> {
+    name(rt, b", password", p.0)
 }
 
-pub fn login(user: User, secret: Password, session: Name) {
+pub fn login(rt: &impl Print, user: User, secret: Password, session: Name) -> io::Result<()> {
     let bytes = names::user_bytes(user);
-    text(b", user", &bytes);
-    password(secret);
-    name(b", session", session);
+    text(rt, b", user", &bytes)?;
+    password(rt, secret)?;
+    name(rt, b", session", session)
 }
 
 // A number, and how many messages there are from it on.
-pub fn counted(label: &[u8], first: Sequence, count: u16) {
-    number(label, first.0);
-    number(b", count ", count as u64);
+pub fn counted(rt: &impl Print, label: &[u8], first: Sequence, count: u16) -> io::Result<()> {
+    number(rt, label, first.0)?;
+    number(rt, b", count ", count as u64)
 }
 
-pub fn letter(label: &[u8], b: u8) {
-    words(label);
-    words(&[b]);
+pub fn letter(rt: &impl Print, label: &[u8], b: u8) -> io::Result<()> {
+    words(rt, label)?;
+    words(rt, &[b])
 }
 
-pub fn rejected(reason: u8) {
-    letter(b"\n= rejected, reason ", reason);
+pub fn rejected(rt: &impl Print, reason: u8) -> io::Result<()> {
+    letter(rt, b"\n= rejected, reason ", reason)
 }
 
 // The message in the block at a place, and the place after it.
-fn block(s: &[u8], place: usize, named: u64) -> usize {
+fn block(rt: &impl Print, s: &[u8], place: usize, named: u64) -> io::Result<usize> {
     match blocks::next(s, place) {
-        Block::Refused(_) => place,
+        Block::Refused(_) => Ok(place),
         Block::At {
             start,
             length,
             next,
         } => {
-            number(b", ", named);
-            part(b"", s, start, length);
-            next
+            number(rt, b", ", named)?;
+            part(rt, b"", s, start, length)?;
+            Ok(next)
         }
     }
 }
 
 // So many messages, in blocks from a place on, and the place after them. A number past 2^64-1 is never named: no reader takes it.
-pub fn messages(s: &[u8], place: usize, first: Sequence, count: u32) -> usize {
+pub fn messages(
+    rt: &impl Print,
+    s: &[u8],
+    place: usize,
+    first: Sequence,
+    count: u32,
+) -> io::Result<usize> {
     let mut at = place;
     let mut named = first.0;
     let mut left = count;
     while 0 < left {
-        at = block(s, at, named);
+        at = block(rt, s, at, named)?;
         named = std::num::wrapping_add_u64(named, 1);
         left -= 1;
     }
-    at
+    Ok(at)
 }
 
 // What a packet of messages says.
-pub fn packet(s: &[u8], place: usize, first: Sequence, count: u16) {
-    counted(b"\n= messages from ", first, count);
-    messages(s, place, first, count as u32);
+pub fn packet(
+    rt: &impl Print,
+    s: &[u8],
+    place: usize,
+    first: Sequence,
+    count: u16,
+) -> io::Result<()> {
+    counted(rt, b"\n= messages from ", first, count)?;
+    messages(rt, s, place, first, count as u32)?;
+    Ok(())
 }
 
 fn is_touched(out: &[u8], place: usize) -> bool {
@@ -161,43 +180,43 @@ fn is_touched(out: &[u8], place: usize) -> bool {
 }
 
 // All of lent output from a place on is looked at.
-pub fn untouched(out: &[u8; ROOM], place: usize) {
+pub fn untouched(rt: &impl Print, out: &[u8; ROOM], place: usize) -> io::Result<()> {
     let mut at = place;
     let mut left = ROOM;
     while 0 < left {
         if is_touched(out, at) {
-            words(b", touched");
-            return;
+            return words(rt, b", touched");
         }
         at = std::num::wrapping_add_usize(at, 1);
         left -= 1;
     }
+    Ok(())
 }
 
-pub fn written(out: &[u8], length: usize) {
+pub fn written(rt: &impl Print, out: &[u8], length: usize) -> io::Result<()> {
     if out.len() < length {
-        return;
+        return Ok(());
     }
     if length <= LONGEST_PACKET {
-        words(b", ");
-        hex(&out[0..length]);
+        words(rt, b", ")?;
+        hex(rt, &out[0..length])
     } else {
-        words(b", beginning ");
-        hex(&out[0..8]);
+        words(rt, b", beginning ")?;
+        hex(rt, &out[0..8])
     }
 }
 
 // What a writer answers, and the bytes that it wrote.
-pub fn wrote(label: &[u8], said: Written, out: &[u8; ROOM]) {
+pub fn wrote(rt: &impl Print, label: &[u8], said: Written, out: &[u8; ROOM]) -> io::Result<()> {
     match said {
         Written::Refused(n) => {
-            refused(n);
-            untouched(out, 0);
+            refused(rt, n)?;
+            untouched(rt, out, 0)
         }
         Written::Bytes(length) => {
-            number(label, length as u64);
-            written(out, length);
-            untouched(out, length);
+            number(rt, label, length as u64)?;
+            written(rt, out, length)?;
+            untouched(rt, out, length)
         }
     }
 }

@@ -1,0 +1,13 @@
+-- A float between -1 and 2 to the 64th is one that the cast takes.
+-- Assumes nothing.
+use Rattle.std.proofs.Common.{T, sym, subst}
+use lib.Ieee.{of_bits, neg}
+use Rattle.book_page.proofs.decimals.units.Goals as goal
+
+pub truncating_f64_to_u64-requires-clause-lower_bound : goal.truncating_f64_to_u64-requires-clause-lower_bound
+unfolding of_bits neg
+truncating_f64_to_u64-requires-clause-lower_bound c = subst T (sym c.if-y.true) tt
+
+pub truncating_f64_to_u64-requires-clause-upper_bound : goal.truncating_f64_to_u64-requires-clause-upper_bound
+unfolding of_bits neg
+truncating_f64_to_u64-requires-clause-upper_bound c = subst T (sym c.if-y-2.true) tt
