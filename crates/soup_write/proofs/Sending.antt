@@ -3,10 +3,9 @@
 use Prim.Native.Nat.{ℕ, ◌≤◌, ◌<◌}
 use mathlib.Core.Path.{◌≡◌, refl, ap, sym, ◌∙◌}
 use mathlib.Core.Logic.{⊎_elim}
-use mathlib.Core.List.{List, [], ◌∷◌}
+use mathlib.Core.List.{List}
 use mathlib.Core.Bool.{true, false, ◌||◌}
 use native.Mathlib.Omega.{arith}
-use types.Run.{OneOf, miss}
 use denote.Enum.Declared.{tag_of}
 use lib.Dec.{eqb}
 use lib.ListN.{length}
@@ -48,8 +47,8 @@ refused-by (taken p) n e = absurd (later p (ap place e))
 
 -- it is any other case: the verdict has taken the packet
 pub taken-by : (v : Verdict Packet) (r : Reading) (packet : List ℕ) (room : ℕ) → r ≡ reading_of v
-    → OneOf (1 ∷ 2 ∷ 3 ∷ 4 ∷ 5 ∷ 6 ∷ 7 ∷ 8 ∷ 9 ∷ 10 ∷ []) (place r) → settle v packet room ≡ within room packet
-taken-by (refused n) r packet room e k = absurd (miss (1 ∷ 2 ∷ 3 ∷ 4 ∷ 5 ∷ 6 ∷ 7 ∷ 8 ∷ 9 ∷ 10 ∷ []) 0 tt (rw e at k))
+    → ((n : ℕ) → r ≡ Refused n → ⊥) → settle v packet room ≡ within room packet
+taken-by (refused n) r packet room e k = absurd (k n e)
 taken-by (taken p) r packet room e k = refl
 
 -- ---- a payload under its type byte

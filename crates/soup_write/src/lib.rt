@@ -1,5 +1,6 @@
 // SoupTCP: packets laid into lent output. What the reader would refuse is refused under the same number; then the room is looked at.
 #![tactic(auto)]
+
 ghost use Rattle.std.specs.Prelude.{◌≡◌, [], true, length};
 ghost use Rattle.names.specs.Names.{name_bytes, user_bytes};
 ghost use Rattle.wire.specs.Reply.{Settled};
