@@ -1,5 +1,6 @@
 // UFO, server to client: packets laid into lent output.
 #![tactic(auto)]
+
 ghost use Rattle.std.specs.Prelude.{length};
 ghost use Rattle.names.specs.Names.{name_bytes};
 ghost use Rattle.wire.specs.Reply.{Settled};
