@@ -1,5 +1,6 @@
 // Reports: what a datagram reports to a record of a session, in either style.
 #![tactic(auto)]
+
 ghost use Rattle.std.specs.Prelude.{◌≡◌};
 ghost use Rattle.wire.specs.Checks.{if◌then◌else◌, ◌is◌, ◌into◌};
 ghost use Rattle.ufo.specs.Down as ufo;
