@@ -33,3 +33,7 @@ pub record Put (n high low : ℕ) (out : List ℕ) (r : Spelling) (left : List �
 -- a text that is longer than the room spells nothing
 abbrev pub within : ℕ → List ℕ → List ℕ
 within room text = if length text at_most room then spelt 16 text else []
+
+-- so many bytes stand at the start: a slice up to there lies within, and is as long
+abbrev pub Counts : ℕ → List ℕ → Type 0
+Counts n s = (n ≤ length s) × (n ≡ length (take n s))

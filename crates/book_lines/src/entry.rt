@@ -1,8 +1,7 @@
 // What a line of the book says: bytes, and a number behind `>`.
 ghost use Rattle.std.specs.Prelude.{◌≤◌, length};
 
-use crate::{hex, numbers};
-use bytes::scan;
+use crate::{hex, numbers, scan};
 
 // How many bytes a piece of a text puts, and where the text goes on.
 #[derive(Clone, Copy)]
@@ -45,7 +44,7 @@ fn repeat(out: &mut [u8], place: usize, times: usize) -> usize {
 
 // Puts what a text spells up to the end of its first run. `5A*1463` is a run: the byte 5A, 1,463 times.
 fn first_run(text: &[u8], out: &mut [u8]) -> Piece {
-    let star = scan::find(text, 0, text.len(), b'*');
+    let star = scan::find(text, b'*');
     let front = hex::decode(&text[0..star], out);
     if star == text.len() {
         return Piece {
@@ -88,7 +87,7 @@ pub fn bytes(text: &[u8], out: &mut [u8]) -> usize {
 
 // The number behind `>`, or another one where there is none.
 pub fn behind_mark(text: &[u8], other: usize) -> usize {
-    let mark = scan::find(text, 0, text.len(), b'>');
+    let mark = scan::find(text, b'>');
     if mark == text.len() {
         return other;
     }
@@ -97,6 +96,6 @@ pub fn behind_mark(text: &[u8], other: usize) -> usize {
 
 // The text in front of `>`.
 pub fn before_mark(text: &[u8]) -> &[u8] {
-    let mark = scan::find(text, 0, text.len(), b'>');
+    let mark = scan::find(text, b'>');
     &text[0..mark]
 }

@@ -1,6 +1,5 @@
 // Bytes in a text, as hexadecimal digits in capitals.
 ghost use Rattle.std.specs.Prelude.{◌≡◌, ◌<◌, ◌≤◌, length, take};
-ghost use Rattle.io.specs.Counts.{IsPrefixLen};
 ghost use Rattle.book_lines.specs.Hex as Hex;
 
 // What stands for a digit where there is none.
@@ -47,7 +46,7 @@ fn put(out: &mut [u8], n: usize, high: u8, low: u8) -> Spelling
 
 // Puts the bytes that the text spells at the start of out, and answers how many there are.
 pub(crate) fn decode(text: &[u8], out: &mut [u8]) -> usize
-    ensures prefix_len { IsPrefixLen result out.new }
+    ensures counts { Hex.Counts result out.new }
     ensures out_after { take result out.new ≡ Hex.within (length out.old) text.now }
 {
     if out.len() < text.len() {
