@@ -1,6 +1,7 @@
 // UFO, client to server: one message written as a block at the output's start. A packet of several is composed by
 // ufo_compose, which keeps it within the limit.
 #![tactic(auto)]
+
 ghost use Rattle.std.specs.Prelude.{◌≡◌, [], ◌∷◌, ◌++◌, ◌≤◌, length};
 ghost use Rattle.std.proofs.lemmas.List.Edits.{sets};
 ghost use Rattle.wire.specs.Fields.{bytes_of};
