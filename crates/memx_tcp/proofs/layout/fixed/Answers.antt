@@ -36,12 +36,12 @@ returns-in-101 c = by-keys (Has 20) (101 ∷ []) c.args.kind (has.10, tt) c.in-1
 pub returns-in_default : goal.returns-in_default
 returns-in_default c =
     let k = c.args.kind in
-    none k (c.in_default-1.rest, under-logins k c.if-kind-lt1.true)
+    none k (c.in_default.in_default-own.rest, under-logins k c.in_default.if-kind-lt1-own.true)
 
 pub returns-in_default-2 : goal.returns-in_default-2
 returns-in_default-2 c =
     let k = c.args.kind in
-    none k (c.in_default-1.rest, over-logins k (omega arith))
+    none k (c.in_default.in_default-own.rest, over-logins k (omega arith))
 
 pub returns-in-1 : goal.returns-in-1
 returns-in-1 c = by-keys (Has 1) (6 ∷ 9 ∷ 100 ∷ []) c.args.kind (has.4, (has.7, (has.9, tt))) c.in-1.is

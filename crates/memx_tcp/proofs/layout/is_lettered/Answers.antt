@@ -40,4 +40,4 @@ unfolding fields_of each values_of
 returns-in_default c =
     let p = c.args.p in
     let arms : List (List ℕ) = (100 ∷ []) ∷ (9 ∷ []) ∷ (6 ∷ []) ∷ (2 ∷ []) ∷ (1 ∷ []) ∷ [] in
-    sym (otherwise (λ r. passed p r.fields) arms refl (λ kind. refl) p.kind c.in_default.rest)
+    sym (otherwise (λ r. passed p r.fields) arms refl (λ kind. refl) p.kind c.in_default.in_default-own.rest)

@@ -24,4 +24,4 @@ pub returns-in_default : goal.returns-in_default
 unfolding fields_of each values_of
 returns-in_default c =
     let p = c.args.p in
-    sym (otherwise (λ r. passed p r.fields) ((5 ∷ 8 ∷ 101 ∷ []) ∷ []) refl (λ kind. refl) p.kind c.in_default.rest)
+    sym (otherwise (λ r. passed p r.fields) ((5 ∷ 8 ∷ 101 ∷ []) ∷ []) refl (λ kind. refl) p.kind c.in_default.in_default-own.rest)

@@ -1,7 +1,6 @@
 -- The match finds a type by the keys of its arm, and what holds of each of them holds of the type: how many bytes its fields have (`Has`),
--- and what they say of the packet (`Says`). In each need m is the place of the match.
+-- and what they say of the packet (`Says`).
 use Prim.Native.Nat.{ℕ}
-use mathlib.Core.Logic.{⊎_elim}
 use mathlib.Core.List.{[], ◌∷◌}
 use native.Mathlib.Omega.{arith}
 use lib.ListN.{get_or}
@@ -10,7 +9,8 @@ use Rattle.memx_tcp.specs.Reading.{fields}
 use Rattle.memx_tcp.proofs.Every.{by-keys, under-logins, over-logins, by-logins}
 use Rattle.memx_tcp.proofs.Places as places
 use Rattle.memx_tcp.proofs.Places.{Has, has, Says, first, second, third, no-fields-in}
-use Rattle.memx_tcp.proofs.reading.fields_of.Goals.{In-1-1}
+use Rattle.memx_tcp.proofs.reading.fields_of.Goals.{In-1-1, in-6-1, in_default+else-kind-lt1+then-kind-lt3}
+use Rattle.memx_tcp.proofs.reading.fields_of.Goals.{in_default-via-then-kind-lt1, in_default-via-else-kind-lt1+else-kind-lt3}
 use Rattle.memx_tcp.proofs.reading.fields_of.Goals as goal
 
 pub get8-requires : goal.get8-requires
@@ -68,13 +68,14 @@ get8-requires-in-103-2 c =
 lettered : (c : In-1-1) (P : ℕ → Type 0) → P 1 × P 2 × P 6 × P 9 × P 100 → P (kind_in c.args.d.now)
 lettered c P each =
     let k = kind_in c.args.d.now in
-    ⊎_elim
-    (λ m. by-keys P (6 ∷ 9 ∷ 100 ∷ []) k (each.2, (each.3, (each.4, tt))) m.keys1)
-    (λ m. by-logins P k each.0 each.1 m.1.left (omega arith))
-    c.in-1-1.branch
+    elim c.in-1-1.branch [
+      | in-6-1 w ↦ by-keys P (6 ∷ 9 ∷ 100 ∷ []) k (each.2, (each.3, (each.4, tt))) w.in-6-1.keys1
+      | in_default+else-kind-lt1+then-kind-lt3 w ↦ by-logins P k each.0 each.1 w.if-kind-lt1-1.false (omega arith)
+    ]
 
 pub bounds-d-3 : goal.bounds-d-3
-bounds-d-3 c = let h = lettered c (Has 1) (has.0, has.1, has.4, has.7, has.9) in omega arith
+bounds-d-3 c =
+    let h = lettered (goal.at.bounds-d-3 c).In-1-1 (Has 1) (has.0, has.1, has.4, has.7, has.9) in omega arith
 
 pub returns-in-3 : goal.returns-in-3
 returns-in-3 c =
@@ -129,13 +130,12 @@ returns-in_default c =
     let s = c.args.d.now in
     let k = kind_in s in
     rw c.fields-in_default.ensures
-    (places.says_nothing s k
-    (⊎_elim
-    (λ i. no-fields-in k (c.in_default-1.rest, under-logins k i.taken))
-    (λ i. no-fields-in k (c.in_default-1.rest, over-logins k i.1.left))
-    c.in_default.branch))
+    (places.says_nothing s k (elim c.in_default.branch [
+      | in_default-via-then-kind-lt1 w ↦ no-fields-in k (c.in_default-1.rest, under-logins k w.if-kind-lt1-1.true)
+      | in_default-via-else-kind-lt1+else-kind-lt3 w ↦ no-fields-in k (c.in_default-1.rest, over-logins k (omega arith))
+    ]))
 
 pub returns-in-1 : goal.returns-in-1
 returns-in-1 c =
     let s = c.args.d.now in
-    rw c.fields-in-1.ensures (lettered c (λ k. Says s (fields k (get_or s 3 0) 0 0 0 0) k) (places.says-letter s))
+    rw c.fields-in-1.ensures (lettered (goal.at.returns-in-1 c).In-1-1 (λ k. Says s (fields k (get_or s 3 0) 0 0 0 0) k) (places.says-letter s))

@@ -7,17 +7,17 @@ use mathlib.Core.Bool.{Bool, true}
 use native.Mathlib.Omega.{arith}
 use borrow.Author.Tests.{eq-eqb, ne_eqb}
 use lib.ListN.{length, drop, length-drop}
-use Rattle.wire.specs.Checks.{taken, ◌else◌, checked}
-use Rattle.wire.proofs.Tests.{tests, held, failed}
+use Rattle.wire.specs.Checks.{Verdict, taken, ◌else◌, checked}
+use Rattle.wire.proofs.Tests.{tests}
 use Rattle.memx_tcp.specs.Layout.{Field, lettered, numbered, fields_of, most_of, size}
-use Rattle.memx_tcp.specs.Packet.{header_size, each}
+use Rattle.memx_tcp.specs.Packet.{Packet, header_size, each}
 use Rattle.memx_tcp.specs.Read.{kind_in, fields_in, packet_in, framed, read}
 use Rattle.memx_tcp.specs.Reading.{fields_by, start_of, tcp_of}
 use Rattle.memx_tcp.specs.Writing.{values_of}
 use Rattle.memx_tcp.specs.declared.packet.Fields.{Fields}
 use Rattle.memx_tcp.specs.declared.reading.Tcp.TheVariants as tcp
 use Rattle.memx_tcp.proofs.Every.{named_again}
-use Rattle.memx_tcp.proofs.Framing.{Framed, framed-says}
+use Rattle.memx_tcp.proofs.Framing.{framed-says}
 use Rattle.memx_tcp.proofs.reading.read.Goals.{Else-not-is_framed, Else-not-is_known, Else-not-is_lettered, Else-not-is_numbered}
 use Rattle.memx_tcp.proofs.reading.read.Goals as goal
 
@@ -33,27 +33,39 @@ answers : (s : List ℕ) (p : Fields) (fixed start : ℕ) → read s ≡ taken (
     → fixed ≡ size (fields_in s) → start ≡ start_of (kind_in s) → tcp.Packet p start (length s - (3 + fixed)) ≡ tcp_of (read s)
 answers s p fixed start r e f g = rw (r, e, f, g, length-drop)
 
--- the packet that was given, where its type is known; and the place past each test, from the place past the next one
-abbrev packet : Else-not-is_known → List ℕ
-packet c = c.args.d.now
-
--- what is left to check where the type is known, and what the tests behind say
-opened : (c : Else-not-is_known) → let s = packet c in
-    read s ≡ checked
+-- what is left to check where the type is known
+abbrev left : List ℕ → Verdict Packet
+left s =
+    checked
     ((framed s else 4)
     ∷ (each lettered (fields_in s) (packet_in s).values else 5)
     ∷ (each numbered (fields_in s) (packet_in s).values else 6)
     ∷ []) (taken (packet_in s))
+
+opened : (c : Else-not-is_known) → read c.args.d.now ≡ left c.args.d.now
 unfolding read
-opened c = rw (held c.is_Known.ensures c.if-not-is_known.false-raw) (search tests)
+opened c =
+    let k = sym c.is_known.ensures ∙ c.if-not-is_known.false in
+    rw k (search tests)
 
-is_framed : (c : Else-not-is_framed) → framed (packet c) ≡ true
-is_framed c = held c.is_framed.ensures c.if-not-is_framed.false-raw
+-- and what the tests behind say
+is_framed : (c : Else-not-is_framed) → framed c.args.d.now ≡ true
+is_framed c = sym c.is_framed.ensures ∙ c.if-not-is_framed.false
 
-has-letters : (c : Else-not-is_lettered) → let s = packet (past-type c) in each lettered (fields_in s) (packet_in s).values ≡ true
+has-letters : (c : Else-not-is_lettered) → let s = c.args.d.now in each lettered (fields_in s) (packet_in s).values ≡ true
 has-letters c =
-    let s = packet (past-type c) in
-    held (tested lettered s _ _ c.fields_of-fields.ensures c.is_lettered.ensures) c.if-not-is_lettered.false-raw
+    let s = c.args.d.now in
+    sym (tested lettered s _ _ c.fields_of-fields.ensures c.is_lettered.ensures) ∙ c.if-not-is_lettered.false
+
+has-numbers : (c : Else-not-is_numbered) → let s = c.args.d.now in each numbered (fields_in s) (packet_in s).values ≡ true
+has-numbers c =
+    let s = c.args.d.now in
+    sym (tested numbered s _ _ c.fields_of-fields.ensures c.is_numbered.ensures) ∙ c.if-not-is_numbered.false
+
+-- past the last test
+passed : (s : List ℕ) → read s ≡ left s → framed s ≡ true → each lettered (fields_in s) (packet_in s).values ≡ true
+    → each numbered (fields_in s) (packet_in s).values ≡ true → read s ≡ taken (packet_in s)
+passed s o f l n = rw (o, f, l, n)
 
 pub returns-then-d-eq0 : goal.returns-then-d-eq0
 unfolding read
@@ -69,66 +81,57 @@ returns-then-kind c = c.read_payload.ensures
 pub returns-then-not-is_known : goal.returns-then-not-is_known
 unfolding read
 returns-then-not-is_known c =
-    let k = failed c.is_Known.ensures c.if-not-is_known.true-raw in
+    let k = sym c.is_known.ensures ∙ c.if-not-is_known.true in
     rw k (search tests)
 
 pub returns-then-not-is_framed : goal.returns-then-not-is_framed
-returns-then-not-is_framed c = rw (opened (goal.at.returns-then-not-is_framed c).Else-not-is_known, failed c.is_framed.ensures c.if-not-is_framed.true-raw)
+returns-then-not-is_framed c =
+    let f = sym c.is_framed.ensures ∙ c.if-not-is_framed.true in
+    rw (opened (goal.at.returns-then-not-is_framed c).Else-not-is_known, f)
 
 pub fields_of-fields-requires : goal.fields_of-fields-requires
-fields_of-fields-requires c = (framed-says (packet (goal.at.fields_of-fields-requires c).Else-not-is_known) (is_framed c)).fixed
+fields_of-fields-requires c = (framed-says c.args.d.now (is_framed (goal.at.fields_of-fields-requires c).Else-not-is_framed)).fixed
 
 pub returns-then-not-is_lettered : goal.returns-then-not-is_lettered
 returns-then-not-is_lettered c =
-    let s = packet (goal.at.returns-then-not-is_lettered c).Else-not-is_known in
-    let l = failed (tested lettered s _ _ c.fields_of-fields.ensures c.is_lettered.ensures) c.if-not-is_lettered.true-raw in
-    rw (opened (goal.at.returns-then-not-is_lettered c).Else-not-is_known, is_framed (goal.at.returns-then-not-is_lettered c).Else-not-is_framed, l)
+    let s = c.args.d.now in
+    let at = goal.at.returns-then-not-is_lettered c in
+    let l = sym (tested lettered s _ _ c.fields_of-fields.ensures c.is_lettered.ensures) ∙ c.if-not-is_lettered.true in
+    rw (opened at.Else-not-is_known, is_framed at.Else-not-is_framed, l)
 
 pub returns-then-not-is_numbered : goal.returns-then-not-is_numbered
 returns-then-not-is_numbered c =
-    let s = packet (goal.at.returns-then-not-is_numbered c).Else-not-is_known in
-    let n = failed (tested numbered s _ _ c.fields_of-fields.ensures c.is_numbered.ensures) c.if-not-is_numbered.true-raw in
-    rw (opened (goal.at.returns-then-not-is_numbered c).Else-not-is_known, is_framed (goal.at.returns-then-not-is_numbered c).Else-not-is_framed, has-letters (goal.at.returns-then-not-is_numbered c).Else-not-is_lettered, n)
-
--- past the last test
-abbrev whole-packet : Else-not-is_numbered → List ℕ
-whole-packet c = packet (past-type (past-framing c))
-
-whole : (c : Else-not-is_numbered) → Framed (whole-packet c) × (read (whole-packet c) ≡ taken (packet_in (whole-packet c)))
-whole c =
-    let s = packet c in
-    let n = held (tested numbered s _ _ c.fields_of-fields.ensures c.is_numbered.ensures) c.if-not-is_numbered.false-raw in
-    (framed-says s (is_framed c), rw (opened c, is_framed c, has-letters c, n))
-
--- the lengths that the code found
-fixed-is : (c : Else-not-is_framed) → c.fixed-fixed.result ≡ size (fields_in (packet c))
-fixed-is c = c.fixed-fixed.ensures
-
-most-is : (c : Else-not-is_framed) → c.most-most.result ≡ most_of (kind_in (packet c))
-most-is c = c.most-most.ensures
+    let s = c.args.d.now in
+    let at = goal.at.returns-then-not-is_numbered c in
+    let n = sym (tested numbered s _ _ c.fields_of-fields.ensures c.is_numbered.ensures) ∙ c.if-not-is_numbered.true in
+    rw (opened at.Else-not-is_known, is_framed at.Else-not-is_framed, has-letters at.Else-not-is_lettered, n)
 
 pub overflow_add-end : goal.overflow_add-end
 overflow_add-end c =
-    let f = (whole c).0.fixed in
-    let e = fixed-is (past-framing c) in
+    let f = (framed-says c.args.d.now (is_framed (goal.at.overflow_add-end c).Else-not-is_framed)).fixed in
     omega arith
 
 pub overflow_sub-length : goal.overflow_sub-length
 overflow_sub-length c =
-    let f = (whole c).0.fixed in
-    let e = fixed-is (past-framing c) in
+    let f = (framed-says c.args.d.now (is_framed (goal.at.overflow_sub-length c).Else-not-is_framed)).fixed in
     omega arith
 
 pub returns-then-most-eq0 : goal.returns-then-most-eq0
 returns-then-most-eq0 c =
-    let d = past-framing c in
-    let none = eq-eqb (most_of (kind_in (packet d))) 0 (sym (most-is d) ∙ c.if-most-eq0.true) in
-    answers (packet d) _ _ 0 (whole (goal.at.returns-then-most-eq0 c).Else-not-is_numbered).1 c.fields_of-fields.ensures (fixed-is d)
-    (rw none)
+    let s = c.args.d.now in
+    let at = goal.at.returns-then-most-eq0 c in
+    let none = eq-eqb (most_of (kind_in s)) 0 (sym c.most-most.ensures ∙ c.if-most-eq0.true) in
+    let r =
+    passed s (opened at.Else-not-is_known) (is_framed at.Else-not-is_framed) (has-letters at.Else-not-is_lettered)
+    (has-numbers at.Else-not-is_numbered) in
+    answers s _ _ 0 r c.fields_of-fields.ensures c.fixed-fixed.ensures (rw none)
 
 pub returns : goal.returns
 returns c =
-    let d = past-framing c in
-    let some = ne_eqb (most_of (kind_in (packet d))) 0 (λ e. c.if-most-eq0.false (most-is d ∙ e)) in
-    answers (packet d) _ _ _ (whole (goal.at.returns c).Else-not-is_numbered).1 c.fields_of-fields.ensures (fixed-is d)
-    (rw (some, ← fixed-is d))
+    let s = c.args.d.now in
+    let at = goal.at.returns c in
+    let some = ne_eqb (most_of (kind_in s)) 0 (λ e. c.if-most-eq0.false (c.most-most.ensures ∙ e)) in
+    let r =
+    passed s (opened at.Else-not-is_known) (is_framed at.Else-not-is_framed) (has-letters at.Else-not-is_lettered)
+    (has-numbers at.Else-not-is_numbered) in
+    answers s _ _ _ r c.fields_of-fields.ensures c.fixed-fixed.ensures (rw (some, ← c.fixed-fixed.ensures))

@@ -1,7 +1,6 @@
 -- The match finds a type by the keys of its arm, and what holds of each of them holds of the type: how many bytes its fields have (`Has`),
--- and that the stores of the arm lay them out (`Lays`). In each need m is the place of the match.
+-- and that the stores of the arm lay them out (`Lays`).
 use Prim.Native.Nat.{ℕ}
-use mathlib.Core.Logic.{⊎_elim}
 use mathlib.Core.List.{[], ◌∷◌}
 use native.Mathlib.Omega.{arith}
 use lib.ListN.{set}
@@ -10,7 +9,7 @@ use Rattle.memx_tcp.proofs.Every.{by-keys, under-logins, over-logins, by-logins}
 use Rattle.memx_tcp.proofs.Places.{Has, has, no-fields-in}
 use Rattle.memx_tcp.proofs.Stored.{Lays, one, two, three, lays-letter, lays-session, lays-count, lays-total, lays-replay-begin}
 use Rattle.memx_tcp.proofs.Stored.{lays-stream-begin, lays-replay, lays-stream, lays-nothing}
-use Rattle.memx_tcp.proofs.writing.put_fields.Goals.{In-1-1}
+use Rattle.memx_tcp.proofs.writing.put_fields.Goals.{In-1-1, in-6-1, in_default+else-kind-lt1+then-kind-lt3}
 use Rattle.memx_tcp.proofs.writing.put_fields.Goals as goal
 
 pub put8-requires : goal.put8-requires
@@ -76,13 +75,14 @@ put8-requires-in-103-2 c =
 -- a type with a letter, which the match finds in two ways
 lettered : (c : In-1-1) (P : ℕ → Type 0) → P 1 × P 2 × P 6 × P 9 × P 100 → P c.args.p.kind
 lettered c P each =
-    ⊎_elim
-    (λ m. by-keys P (6 ∷ 9 ∷ 100 ∷ []) c.args.p.kind (each.2, (each.3, (each.4, tt))) m.keys1)
-    (λ m. by-logins P c.args.p.kind each.0 each.1 m.1.left (omega arith))
-    c.in-1-1.branch
+    let k = c.args.p.kind in
+    elim c.in-1-1.branch [
+      | in-6-1 w ↦ by-keys P (6 ∷ 9 ∷ 100 ∷ []) k (each.2, (each.3, (each.4, tt))) w.in-6-1.keys1
+      | in_default+else-kind-lt1+then-kind-lt3 w ↦ by-logins P k each.0 each.1 w.if-kind-lt1-1.false (omega arith)
+    ]
 
 pub bounds-out-3 : goal.bounds-out-3
-bounds-out-3 c = let h = lettered c (Has 1) (has.0, has.1, has.4, has.7, has.9) in omega arith
+bounds-out-3 c = let h = lettered (goal.at.bounds-out-3 c).In-1-1 (Has 1) (has.0, has.1, has.4, has.7, has.9) in omega arith
 
 pub returns-in-3 : goal.returns-in-3
 unfolding values_of
@@ -147,14 +147,14 @@ unfolding values_of
 returns-in_default c =
     let a = c.args in
     let k = a.p.kind in
-    lays-nothing a.out.now a.p k (no-fields-in k (c.in_default-1.rest, under-logins k c.if-kind-lt1.true))
+    lays-nothing a.out.now a.p k (no-fields-in k (c.in_default.in_default-own.rest, under-logins k c.in_default.if-kind-lt1-own.true))
 
 pub returns-in_default-2 : goal.returns-in_default-2
 unfolding values_of
 returns-in_default-2 c =
     let a = c.args in
     let k = a.p.kind in
-    lays-nothing a.out.now a.p k (no-fields-in k (c.in_default-1.rest, over-logins k (omega arith)))
+    lays-nothing a.out.now a.p k (no-fields-in k (c.in_default.in_default-own.rest, over-logins k (omega arith)))
 
 pub returns-in-1 : goal.returns-in-1
 unfolding values_of
@@ -162,4 +162,4 @@ returns-in-1 c =
     let a = c.args in
     let out = a.out.now in
     let p = a.p in
-    lettered c (Lays out p (set out 3 p.letter)) (lays-letter out p (omega arith))
+    lettered (goal.at.returns-in-1 c).In-1-1 (Lays out p (set out 3 p.letter)) (lays-letter out p (omega arith))
