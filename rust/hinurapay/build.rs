@@ -1,6 +1,7 @@
 //! Finds the proved archive, or has it built, and links it.
 
 use std::env;
+use std::fs;
 use std::path::{Path, PathBuf};
 use std::process::{exit, Command};
 
@@ -41,17 +42,21 @@ fn root() -> PathBuf {
 /// Builds the archive and says in which folder it lies.
 fn build() -> PathBuf {
     let root = root();
-    println!("cargo:rerun-if-changed={}", root.join("crates").display());
-    let built = Command::new("rt")
-        .args(["staticlib", "hinurapay"])
-        .current_dir(&root)
-        .status();
-    match built {
-        Ok(status) if status.success() => root.join("target/staticlib"),
-        Ok(_) => stop("`rt staticlib hinurapay` failed in the repository's root"),
-        Err(_) => {
-            stop("`rt` is missing: install it, or name the archive's folder in HINURAPAY_LIB_DIR")
+    // of a room's folders that which `rt` writes, `out`, is none of its text
+    let rooms = fs::read_dir(root.join("crates")).into_iter().flatten();
+    for room in rooms.flatten() {
+        for part in ["src", "specs", "proofs"] {
+            let part = room.path().join(part);
+            if part.is_dir() {
+                println!("cargo:rerun-if-changed={}", part.display());
+            }
         }
+    }
+    let listed = root.join("crates.txt");
+    println!("cargo:rerun-if-changed={}", listed.display());
+    match Command::new(root.join("rust/archive")).status() {
+        Ok(status) if status.success() => root.join("target/staticlib"),
+        _ => stop("`rust/archive` failed; or name the archive's folder in HINURAPAY_LIB_DIR"),
     }
 }
 
