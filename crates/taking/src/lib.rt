@@ -1,5 +1,6 @@
 // Taking a datagram into a session record.
 #![tactic(auto)]
+
 mod deliver;
 mod early;
 mod tell;
