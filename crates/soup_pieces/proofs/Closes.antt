@@ -11,7 +11,6 @@ use lib.ListN.{length, get_or, drop, length-append, length-drop}
 use lib.Seq.{length-take-le, take_at, get_or_at}
 use borrow.Author.Tests.{eq-eqb, le-leb, eqb-true, eqb-false}
 use denote.Enum.Declared.{tag_of}
-use types.Run.{OneOf, miss}
 use Rattle.wire.specs.Fields.{Bytes}
 use Rattle.wire.specs.Checks.{Verdict, refused, taken}
 use Rattle.wire.proofs.Checks.{passed-all}
@@ -38,20 +37,20 @@ use Rattle.soup_pieces.proofs.Turns.{early, past-last, second}
 abbrev place_of : Reading → ℕ
 place_of r = tag_of Reading-type.the_type r
 
--- all but a refusal and Login Accepted
-abbrev pub others : List ℕ
-others = 1 ∷ 3 ∷ 4 ∷ 5 ∷ 6 ∷ 7 ∷ 8 ∷ 9 ∷ 10 ∷ []
+-- not Login Accepted
+abbrev Other : Reading → Type 0
+Other r = (session : Name) (number : Sequence) → r ≡ Accept session number → ⊥
 
 -- a packet's role by what the code answers of it, and by its first byte: no packet but an S has that of one
 record RoleByAnswer (p : Packet) : Type 0 where
   later : place_of (packet_of p) ≡ 0 → ⊥
   accepted : (session : Name) (number : Sequence) → packet_of p ≡ Accept session number → role_of p ≡ begins number.0
-  other : OneOf others (place_of (packet_of p)) → (get_or (write p) 0 0 ≡ 83 → ⊥) → role_of p ≡ neither
+  other : Other (packet_of p) → (get_or (write p) 0 0 ≡ 83 → ⊥) → role_of p ≡ neither
 
 role-by-answer : (p : Packet) → RoleByAnswer p
 role-by-answer (debug text) = record { later = λ e. omega arith; accepted = λ s n e. impossible cc; other = λ k b. refl }
 role-by-answer (accept session number) =
-    record { later = λ e. omega arith; accepted = λ s n e. cc; other = λ k b. absurd (miss others 2 tt k) }
+    record { later = λ e. omega arith; accepted = λ s n e. cc; other = λ k b. absurd (k _ _ refl) }
 role-by-answer (reject reason) = record { later = λ e. omega arith; accepted = λ s n e. impossible cc; other = λ k b. refl }
 role-by-answer (sequenced message) = record { later = λ e. omega arith; accepted = λ s n e. impossible cc; other = λ k b. absurd (b refl) }
 role-by-answer server_heartbeat = record { later = λ e. omega arith; accepted = λ s n e. impossible cc; other = λ k b. refl }
@@ -154,11 +153,11 @@ module _ (d : List ℕ) (l : Line d) (next place : ℕ) where
       by (refused m) q z = impossible cc
       by (taken p) q z = rw (second next d p q number.0 ((role-by-answer p).accepted session number z) n)
 
-    pub other-taken : Bytes d → (get_or d 0 0 ≡ 83 → ⊥) → OneOf others (place_of r) → unnumbered r (length d) next place ≡ closed d next place
+    pub other-taken : Bytes d → (get_or d 0 0 ≡ 83 → ⊥) → ((n : ℕ) → r ≡ Refused n → ⊥) → Other r → unnumbered r (length d) next place ≡ closed d next place
     unfolding closed judge
-    other-taken b f k = by (read d) refl where
+    other-taken b f h k = by (read d) refl where
       by : (v : Verdict Packet) → read d ≡ v → unnumbered r (length d) next place ≡ closed d next place
-      by (refused n) q = absurd (miss others 0 tt (rw (e, q) at k))
+      by (refused n) q = absurd (h n (rw (e, q)))
       by (taken p) q =
           let s : get_or (write p) 0 0 ≡ 83 → ⊥ = rw ((read-is-written d p b q).1, same-type d) f in
           let t = (role-by-answer p).other (rw (e, q) at k) s in

@@ -8,6 +8,7 @@ use lib.ListN.{length}
 use borrow.Fn.Kinds.{Dens, ended_of}
 use contract.Lifetimes.{Lfts}
 use denote.Ref.{Bor}
+use denote.MutBor.{MutBor}
 use denote.Triple.Clauses.{AtExit}
 use Rattle.soup_pieces.specs.Calling.{Lent, machine_in, Entry, Permitted, Seen, Underway, Feeds, joined}
 use Rattle.soup_pieces.specs.declared.Taken.{Taken}
@@ -33,17 +34,20 @@ pub ensured-permitted : (l : Lent) (piece : List ℕ) (place : ℕ) (r : Taken) 
     → Permitted l piece place r left
 ensured-permitted l piece place r left x = rw (← x.3, ← x.4, ← x.5, ← x.6, ← x.7) x.8
 
--- references to the bytes that are lent, wherever they may lie
+-- references to the bytes that are lent, wherever they may lie: to read, and to write
 abbrev refers : List ℕ → Bor (List ℕ)
 refers s = record { ref_ptr = (0, 0); now = s }
+
+abbrev lends : List ℕ → MutBor (List ℕ)
+lends s = record { ref_ptr = (0, 0); ghost_name = 0; now = s }
 
 -- and whatever is permitted, the contract ensures of some arguments
 pub permitted-ensured : (l : Lent) (piece : List ℕ) (place : ℕ) (r : Taken) (left : List ℕ) → Permitted l piece place r left
     → Ensured l piece place r left
 permitted-ensured l piece place r left a = (
   ([], ([], tt)),
-  (l.pieces, (refers l.buffer, (refers piece, (place, tt)))),
-  (l.pieces, (refers left, (refers piece, (place, tt)))),
+  (l.pieces, (lends l.buffer, (refers piece, (place, tt)))),
+  (l.pieces, (lends left, (refers piece, (place, tt)))),
   refl,
   refl,
   refl,

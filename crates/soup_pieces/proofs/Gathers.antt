@@ -8,7 +8,7 @@ use mathlib.Core.Bool.{true, false}
 use native.Mathlib.Omega.{arith}
 use lib.ListN.{length, get_or, take, drop, length-append, length-drop}
 use lib.Seq.{sets, sets-eq, length-take-le, take_at, take-take, take_all, take-suc, get_or-take, split_at}
-use Rattle.bytes.specs.Bytes.{slice, index_of}
+use Rattle.soup_pieces.specs.Searching.{slice, index_of}
 use Rattle.wire.specs.Checks.{Verdict, refused, taken}
 use Rattle.soup.specs.Packet.{Packet}
 use Rattle.soup.specs.Read.{unbroken}

@@ -9,9 +9,9 @@ use native.Mathlib.Numerals.{add-one}
 use native.Mathlib.Omega.{arith}
 use lib.Dec.{eqb}
 use lib.ListN.{length, get_or, take, drop, length-take, length-drop, take-append-drop, drop_of_length-le}
-use lib.Seq.{take-take, take-add, drop-cons, drop-drop, drop_at, drop-append-le, length-take-le}
-use borrow.Author.Tests.{eqb-true, eqb-false}
-use Rattle.bytes.specs.Bytes.{slice, index_after, index_of}
+use lib.Seq.{take-take, take-add, get_or-take, drop-cons, drop-drop, drop_at, drop-append-le, length-take-le}
+use borrow.Author.Tests.{eq-eqb, ne_eqb, eqb-true, eqb-false}
+use Rattle.soup_pieces.specs.Searching.{slice, index_after, index_of}
 use Rattle.wire.proofs.Tests.{by-test, both}
 use Rattle.soup.specs.Read.{unbroken}
 use Rattle.soup.proofs.Linefeed.{more}
@@ -96,3 +96,24 @@ unfolding slice
 found-behind s from at to found f h l u e =
     let n : length (slice from at s) ≡ at - from = length-drop from (take at s) ∙ rw (length-take-le at s (omega arith)) in
     rw (slice-split s from at to f h l, past-none (slice from at s) (slice at to s) u) (omega arith)
+
+-- ---- one by one
+
+slice-cons : (s : List ℕ) (at to : ℕ) → at < to → to ≤ length s → slice at to s ≡ get_or s at 0 ∷ slice (at + 1) to s
+unfolding slice
+slice-cons s at to h l =
+    let n : length (take to s) ≡ to = length-take-le to s l in
+    rw (drop-cons (take to s) at 0 (omega arith), get_or-take to s at 0 h, add-one at) refl
+
+pub found-here : (b : ℕ) (s : List ℕ) (at to : ℕ) → at < to → to ≤ length s → get_or s at 0 ≡ b → index_of b (slice at to s) ≡ 0
+unfolding index_of index_after
+found-here b s at to h l e = rw (slice-cons s at to h l, eq-eqb (get_or s at 0) b e)
+
+pub found-further : (b : ℕ) (s : List ℕ) (at to : ℕ) → at < to → to ≤ length s → (get_or s at 0 ≡ b → ⊥)
+    → index_of b (slice at to s) ≡ suc (index_of b (slice (at + 1) to s))
+unfolding index_of index_after
+found-further b s at to h l e = rw (slice-cons s at to h l, ne_eqb (get_or s at 0) b e)
+
+pub found-nowhere : (b : ℕ) (s : List ℕ) (at to : ℕ) → to ≤ at → index_of b (slice at to s) ≡ 0
+unfolding slice index_of
+found-nowhere b s at to h = rw (drop_of_length-le (take to s) {i = at} (omega (arith, length-take to s)))

@@ -8,7 +8,7 @@ use native.Mathlib.Omega.{arith}
 use lib.ListN.{length, take, drop, length-drop}
 use lib.Seq.{take_all, take-length, split_at, drop-drop}
 use borrow.Author.Tests.{le-leb, lt-leb}
-use Rattle.bytes.specs.Bytes.{slice, index_of}
+use Rattle.soup_pieces.specs.Searching.{slice, index_of}
 use Rattle.wire.specs.Checks.{taken}
 use Rattle.soup.specs.Read.{unbroken}
 use Rattle.soup_pieces.specs.Machine.{empty, used_up, first}

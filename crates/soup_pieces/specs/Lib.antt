@@ -2,3 +2,4 @@ pub mod Machine
 pub mod Eating
 pub mod Closing
 pub mod Calling
+pub mod Searching

@@ -1,5 +1,6 @@
 // SoupTCP as it comes off the wire: pieces that are cut anywhere go in, and whole packets come out in order.
 #![tactic(auto)]
+
 mod closing;
 mod gathering;
 mod readiness;

@@ -1,9 +1,7 @@
 // The search for a linefeed: eight bytes at a time while none is among them, then one by one.
 ghost use Rattle.std.specs.Prelude.{◌≡◌, true, ◌+◌, ◌≤◌, length, take, drop};
-ghost use Rattle.bytes.specs.Bytes.{index_of, slice};
 ghost use Rattle.soup.specs.Read.{unbroken};
-
-use bytes::scan;
+ghost use Rattle.soup_pieces.specs.Searching.{index_of, slice};
 
 fn are_two_unbroken(s: &[u8], i: usize) -> bool
     requires { i + 2 ≤ length s.now }
@@ -42,11 +40,26 @@ fn behind_eights(s: &[u8], from: usize, to: usize) -> usize
     at
 }
 
+// The first place from `from` on where the byte stands, or `to` where it stands nowhere before.
+fn find(s: &[u8], from: usize, to: usize, byte: u8) -> usize
+    requires { (from ≤ to) × (to ≤ length s.now) }
+    ensures { (result ≡ from + index_of byte (slice from to s.now)) × (result ≤ to) }
+{
+    let mut at = from;
+    while at < to {
+        if s[at] == byte {
+            return at;
+        }
+        at += 1;
+    }
+    at
+}
+
 // The first place from `from` on where a linefeed stands, or `to` where none stands before it.
 pub(crate) fn linefeed(s: &[u8], from: usize, to: usize) -> usize
     requires { (from ≤ to) × (to ≤ length s.now) }
     ensures { (result ≡ from + index_of 10 (slice from to s.now)) × (result ≤ to) }
 {
     let at = behind_eights(s, from, to);
-    scan::find(s, at, to, b'\n')
+    find(s, at, to, b'\n')
 }
