@@ -40,7 +40,8 @@ module _ (m : Message) (out : List ℕ) (used : ℕ) (q : List ℕ) where
   settled (refused n) e t = not-both (refused n) n q refl t
   settled (taken ms) e t =
       let same = within-taken (length out) (take used out ++ frame (write_message m)) q t in
-      let w = went (read_up (take used out ++ frame (write_message (capped_in m)))) (λ os. checked ((held_in m else 7) ∷ []) (taken os)) ms e in
+      let w = went (read_up (take used out ++ frame (write_message (capped_in m)))) (λ os. checked ((held_in m else 7) ∷ []) (taken os))
+      ms e in
       let h = (all-passed ((held_in m else 7) ∷ []) (taken w.by) ms w.gave).0.0 in
       let read : read_up (take used out ++ frame (write_message m)) ≡ taken w.by =
       ap (λ (x : Message). read_up (take used out ++ frame (write_message x))) (sym (held_same m h)) ∙ w.was in
@@ -98,7 +99,15 @@ module _ (a : List Message) (m : Message) where
       let fit : Fit (a ++ (m ∷ [])) = record { some = rw length-append (omega arith); all = fit-more a m f g; short = l } in
       let read : read_up (write_up a ++ frame (write_message m)) ≡ taken (a ++ (m ∷ [])) =
       rw (← write-more) (written-is-read (a ++ (m ∷ [])) fit) in
-      rw (le-leb (length (write_up a)) (length out) (omega arith), e, written-so-far a f (omega arith), held_same m t, read, t, ← write-more)
+      rw (
+        le-leb (length (write_up a)) (length out) (omega arith),
+        e,
+        written-so-far a f (omega arith),
+        held_same m t,
+        read,
+        t,
+        ← write-more,
+      )
       (enough-room (write_up (a ++ (m ∷ []))) (length out) h)
 
 composed-on : (b a : List Message) (out : List ℕ) → FitAll a → FitAll b → length (write_up a) + length (write_up b) ≤ limit

@@ -1,5 +1,6 @@
 // UFO, client to server: a packet composed message by message in lent output.
 #![tactic(auto)]
+
 ghost use Rattle.std.specs.Prelude.{◌≡◌, length};
 ghost use Rattle.wire.specs.Checks.{◌at_most◌};
 ghost use Rattle.wire.specs.Reply.{Settled};
