@@ -1,5 +1,6 @@
 // Answering: the packet that a request gets, and the heartbeats and ends that can be had at any time.
 #![tactic(auto)]
+
 ghost use Rattle.std.specs.Prelude.{◌≡◌, true, ◌≤◌, ◌<◌, length};
 ghost use Rattle.wire.specs.Checks.{taken};
 ghost use Rattle.wire.specs.Datagram.{limit};
