@@ -1,4 +1,2 @@
 pub mod Storing
-pub mod Lying
 mod Settled
-mod Walking

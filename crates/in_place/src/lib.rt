@@ -1,5 +1,6 @@
 // The session record where it lies: a step is tried on a copy, and what comes back is stored only if the step was taken.
 #![tactic(auto)]
+
 ghost use Rattle.std.specs.Prelude.{length};
 ghost use Rattle.taking.specs.Taking.{taking};
 ghost use Rattle.asking.specs.Asking.{asking};
