@@ -69,7 +69,8 @@ module _ (d : List ℕ) (b : Bytes d) where
       d (read d) (read-is-written d b) (never-0 d) (λ n. refl)
 
   -- What was read, written with its body, is the same bytes.
-  pub read-then-written : (room : ℕ) → (down_read d).refusal ≡ 0 → let p = (down_read d).packet in down_reply p (body_of p d) room ≡ within room d
+  pub read-then-written : (room : ℕ) → (down_read d).refusal ≡ 0
+      → let p = (down_read d).packet in down_reply p (body_of p d) room ≡ within room d
   read-then-written room e = (round e).1 room
 
   -- The flat kind of a packet is its type byte.
