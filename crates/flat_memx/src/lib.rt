@@ -1,5 +1,6 @@
 // MEMX-UDP laid flat: a packet read, and one written from its fields.
 #![tactic(auto)]
+
 ghost use Rattle.std.specs.Prelude.{◌≡◌, length};
 ghost use Rattle.wire.specs.Checks.{if◌then◌else◌, ◌at_most◌};
 ghost use Rattle.wire.specs.Reply.{Settled};
