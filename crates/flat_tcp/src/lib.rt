@@ -1,5 +1,6 @@
 // MEMX-TCP laid flat: a packet read, and one written from its fields.
 #![tactic(auto)]
+
 ghost use Rattle.std.specs.Prelude.{◌≡◌, length};
 ghost use Rattle.flat.specs.Wrote.{FlatSettled};
 ghost use Rattle.flat_tcp.specs.Packets.{flat_tcp, tcp_read, fields_of, tcp_reply};
