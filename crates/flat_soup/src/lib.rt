@@ -1,5 +1,6 @@
 // SoupTCP laid flat: a packet read, and one written from its fields.
 #![tactic(auto)]
+
 ghost use Rattle.std.specs.Prelude.{◌≡◌, length};
 ghost use Rattle.wire.specs.Reply.{Settled};
 ghost use Rattle.soup.specs.Packet.{login};
