@@ -8,7 +8,7 @@ use lib.ListN.{length}
 use Rattle.wire.specs.Fields.{Bytes}
 use Rattle.wire.specs.Checks.{taken, ◌else◌}
 use Rattle.wire.proofs.Checks.{all-passed}
-use Rattle.blocks.specs.Blocks.{frames, whole, is_whole, messages_of, Each, Short}
+use Rattle.blocks.specs.Blocks.{frames, is_whole, messages_of, Each, Short}
 use Rattle.blocks.proofs.Cutting.{cut-frames, frames-cut}
 use Rattle.blocks.proofs.Counting.{whole_is}
 use Rattle.lent_log.specs.Log.{messages_in, hangs, Kept, extended, growing, fitting, adding, to_the_end, adding_many, declaring}
