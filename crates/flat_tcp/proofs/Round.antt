@@ -79,7 +79,8 @@ module _ (d : List ℕ) (b : Bytes d) where
       rw (← s) (n.0, λ room. rw (again d q r, s, w.1, r))
 
   -- What was read, written with its token or payload, is the same bytes.
-  pub read-then-written : (room : ℕ) → (tcp_read d).refusal ≡ 0 → let p = (tcp_read d).packet in tcp_reply p (body_of p d) room ≡ within room d
+  pub read-then-written : (room : ℕ) → (tcp_read d).refusal ≡ 0 → let p = (tcp_read d).packet in
+      tcp_reply p (body_of p d) room ≡ within room d
   read-then-written room e = (round (read d) refl e).1 room
 
   -- The flat kind of a packet is its type byte.

@@ -22,7 +22,8 @@ pub record Framed (d : List ℕ) : Type 0 where
 pub framed-says : (d : List ℕ) → framed d ≡ true → Framed d
 unfolding framed
 framed-says d e =
-    let a = both (header_size + stated_in d is length d && end_in d at_most length d) (length (drop (end_in d) d) at_most most_of (kind_in d)) e in
+    let tail = length (drop (end_in d) d) at_most most_of (kind_in d) in
+    let a = both (header_size + stated_in d is length d && end_in d at_most length d) tail e in
     let b = both (header_size + stated_in d is length d) (end_in d at_most length d) a.0 in
     record {
       stated = eqb-true _ _ b.0;
@@ -39,7 +40,8 @@ unfolding framed
 cut_short s e h = rw (eq-eqb (header_size + stated_in s) (length s) e, lt-leb (end_in s) (length s) h)
 
 -- n bytes follow the fields
-pub followed : (s : List ℕ) (n : ℕ) → header_size + stated_in s ≡ length s → end_in s + n ≡ length s → leb n (most_of (kind_in s)) ≡ framed s
+pub followed : (s : List ℕ) (n : ℕ) → header_size + stated_in s ≡ length s → end_in s + n ≡ length s
+    → leb n (most_of (kind_in s)) ≡ framed s
 unfolding framed
 followed s n e h =
     let l : length (drop (end_in s) s) ≡ n = rw length-drop (omega arith) in

@@ -22,4 +22,5 @@ pub returns-in_default : goal.returns-in_default
 unfolding most_of
 returns-in_default c =
     let k = c.args.kind in
-    sym (eqb-true (most_of k) 0 (otherwise (λ r. r.most is 0) ((11 ∷ 104 ∷ []) ∷ (100 ∷ []) ∷ []) refl (λ kind. refl) k c.in_default.in_default-own.rest))
+    let missed = c.in_default.in_default-own.rest in
+    sym (eqb-true (most_of k) 0 (otherwise (λ r. r.most is 0) ((11 ∷ 104 ∷ []) ∷ (100 ∷ []) ∷ []) refl (λ kind. refl) k missed))

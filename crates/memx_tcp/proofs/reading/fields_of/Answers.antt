@@ -138,4 +138,5 @@ returns-in_default c =
 pub returns-in-1 : goal.returns-in-1
 returns-in-1 c =
     let s = c.args.d.now in
-    rw c.fields-in-1.ensures (lettered (goal.at.returns-in-1 c).In-1-1 (λ k. Says s (fields k (get_or s 3 0) 0 0 0 0) k) (places.says-letter s))
+    let at = goal.at.returns-in-1 c in
+    rw c.fields-in-1.ensures (lettered at.In-1-1 (λ k. Says s (fields k (get_or s 3 0) 0 0 0 0) k) (places.says-letter s))

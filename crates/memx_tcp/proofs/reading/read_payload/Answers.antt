@@ -32,7 +32,8 @@ module _ (s : List ℕ) (some : 0 < length s) (short : length s ≤ limit) (k : 
       let b = bare (kind_in s) k in
       rw (ne_eqb (length s) 0 (λ e. omega arith), le-leb (length s) limit short, b.0, ← f)
 
-  takes : (n : ℕ) → header_size + stated_in s ≡ length s → n ≡ length s - 3 → tcp.Packet (fields (kind_in s) 0 0 0 0 0) 3 n ≡ tcp_of (read s)
+  takes : (n : ℕ) → header_size + stated_in s ≡ length s → n ≡ length s - 3
+      → tcp.Packet (fields (kind_in s) 0 0 0 0 0) 3 n ≡ tcp_of (read s)
   unfolding read size values_in each fields_by
   takes n e l =
       let b = bare (kind_in s) k in
