@@ -1,9 +1,10 @@
 // The lending end: a log over lent bytes, and what goes out when its messages are asked for.
 #![tactic(auto)]
-use book_lines::{entry, numbers};
+
+use book_lines::{entry, numbers, scan};
 use book_page::page;
-use bytes::scan;
 use lent_log::{Log, Logged};
+use std::io;
 use wire::fields;
 use wire::kinds::Sequence;
 use wire::output::Written;
@@ -26,53 +27,53 @@ pub fn empty(size: usize) -> Shelf {
     }
 }
 
-fn tell(log: Log) {
-    page::number(b"\n= messages ", log.count);
-    page::number(b", bytes ", log.used as u64);
+fn tell(rt: &impl Print, log: Log) -> io::Result<()> {
+    page::number(rt, b"\n= messages ", log.count)?;
+    page::number(rt, b", bytes ", log.used as u64)?;
     if log.ended {
-        page::words(b", ended yes");
+        page::words(rt, b", ended yes")
     } else {
-        page::words(b", ended no");
+        page::words(rt, b", ended no")
     }
 }
 
-fn open(size: usize) -> Shelf {
+fn open(rt: &impl Print, size: usize) -> io::Result<Shelf> {
     let shelf = empty(size);
-    tell(shelf.log);
-    shelf
+    tell(rt, shelf.log)?;
+    Ok(shelf)
 }
 
 // A log as the line says: its numbers, and behind the word `bytes` what is lent.
-fn given(text: &[u8], lent: &mut [u8]) -> Shelf {
+fn given(rt: &impl Print, text: &[u8], lent: &mut [u8]) -> io::Result<Shelf> {
     let log = Log {
         count: numbers::whole(text, 0),
         used: numbers::whole(text, 1) as usize,
         ended: numbers::whole(text, 2) == 1,
     };
-    let word = scan::find(text, 0, text.len(), b'b');
+    let word = scan::find(text, b'b');
     let size = entry::bytes(&text[word..], lent);
-    tell(log);
+    tell(rt, log)?;
     if size <= lent.len() {
         if !lent_log::hangs_together(log, &lent[0..size]) {
-            page::words(b", refused 10");
+            page::words(rt, b", refused 10")?;
         }
     }
-    Shelf { log, size }
+    Ok(Shelf { log, size })
 }
 
 // The log afterwards; after a refusal it is the one before.
-fn entered(said: Logged, shelf: Shelf) -> Shelf {
+fn entered(rt: &impl Print, said: Logged, shelf: Shelf) -> io::Result<Shelf> {
     match said {
         Logged::Refused(n) => {
-            page::refused(n);
-            shelf
+            page::refused(rt, n)?;
+            Ok(shelf)
         }
         Logged::After(log) => {
-            tell(log);
-            Shelf {
+            tell(rt, log)?;
+            Ok(Shelf {
                 log,
                 size: shelf.size,
-            }
+            })
         }
     }
 }
@@ -90,90 +91,108 @@ fn packet(letter: u8, text: &[u8], log: Log, bytes: &[u8], out: &mut [u8]) -> Wr
     }
 }
 
-fn send(letter: u8, text: &[u8], log: Log, bytes: &[u8], room: usize) {
+fn send(
+    rt: &impl Print,
+    letter: u8,
+    text: &[u8],
+    log: Log,
+    bytes: &[u8],
+    room: usize,
+) -> io::Result<()> {
     let mut out = [page::UNTOUCHED; page::ROOM];
     if room <= page::ROOM {
         let said = packet(letter, text, log, bytes, &mut out[0..room]);
-        page::wrote(b"\n= sent, bytes ", said, &out);
+        page::wrote(rt, b"\n= sent, bytes ", said, &out)?;
     }
+    Ok(())
 }
 
 // What a line does with a log over all of the bytes.
 fn use_log(
+    rt: &impl Print,
     letter: u8,
     text: &[u8],
     d: &[u8],
     room: usize,
     shelf: Shelf,
     bytes: &mut [u8],
-) -> Shelf {
+) -> io::Result<Shelf> {
     let log = shelf.log;
     match letter {
-        b'a' => entered(lent_log::add(log, bytes, d), shelf),
-        b'm' => entered(lent_log::add_many(log, bytes, d), shelf),
-        b'e' => entered(lent_log::declare_end(log, bytes), shelf),
+        b'a' => entered(rt, lent_log::add(log, bytes, d), shelf),
+        b'm' => entered(rt, lent_log::add_many(log, bytes, d), shelf),
+        b'e' => entered(rt, lent_log::declare_end(log, bytes), shelf),
         _ => {
-            send(letter, text, log, bytes, room);
-            shelf
+            send(rt, letter, text, log, bytes, room)?;
+            Ok(shelf)
         }
     }
 }
 
 // The log after a line, whose second word's first letter says what is done.
-fn log_line(text: &[u8], d: &[u8], room: usize, shelf: Shelf, lent: &mut [u8]) -> Shelf {
+fn log_line(
+    rt: &impl Print,
+    text: &[u8],
+    d: &[u8],
+    room: usize,
+    shelf: Shelf,
+    lent: &mut [u8],
+) -> io::Result<Shelf> {
     if text.len() < 5 {
-        return shelf;
+        return Ok(shelf);
     }
     let letter = text[4];
     match letter {
-        b'o' => open(numbers::whole(text, 0) as usize),
-        b'i' => given(text, lent),
+        b'o' => open(rt, numbers::whole(text, 0) as usize),
+        b'i' => given(rt, text, lent),
         _ => {
             let size = shelf.size;
             if lent.len() < size {
-                return shelf;
+                return Ok(shelf);
             }
-            use_log(letter, text, d, room, shelf, &mut lent[0..size])
+            use_log(rt, letter, text, d, room, shelf, &mut lent[0..size])
         }
     }
 }
 
 // A message of some length and one that says HI are added, and both are asked for. Two bytes say how long it is; it is all zeros.
-fn both(d: &[u8], lent: &mut [u8]) {
+fn both(rt: &impl Print, d: &[u8], lent: &mut [u8]) -> io::Result<()> {
     let zeros = [0u8; 2000];
     if d.len() < 2 {
-        return;
+        return Ok(());
     }
     let length = fields::get2(d, 0) as usize;
     if length <= 2000 {
         match lent_log::add(empty(0).log, lent, &zeros[0..length]) {
-            Logged::Refused(n) => page::refused(n),
+            Logged::Refused(n) => page::refused(rt, n)?,
             Logged::After(log) => match lent_log::add(log, lent, b"HI") {
-                Logged::Refused(n) => page::refused(n),
-                Logged::After(log) => send(b'g', b"1 2", log, lent, page::ROOM),
+                Logged::Refused(n) => page::refused(rt, n)?,
+                Logged::After(log) => send(rt, b'g', b"1 2", log, lent, page::ROOM)?,
             },
         }
     }
+    Ok(())
 }
 
 // The log after a line.
 pub fn line(
+    rt: &impl Print,
     letter: u8,
     text: &[u8],
     d: &[u8],
     room: usize,
     shelf: Shelf,
     lent: &mut [u8],
-) -> Shelf {
+) -> io::Result<Shelf> {
     if letter != b'l' {
-        return shelf;
+        return Ok(shelf);
     }
     if text.len() < 2 {
-        return shelf;
+        return Ok(shelf);
     }
     if text[1] == b'e' {
-        both(d, lent);
-        return shelf;
+        both(rt, d, lent)?;
+        return Ok(shelf);
     }
-    log_line(text, d, room, shelf, lent)
+    log_line(rt, text, d, room, shelf, lent)
 }
