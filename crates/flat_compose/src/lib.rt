@@ -1,5 +1,6 @@
 // UFO, client to server, laid flat: a message written from its fields behind the packet so far.
 #![tactic(auto)]
+
 ghost use Rattle.std.specs.Prelude.{◌+◌, length};
 ghost use Rattle.wire.specs.Reply.{Settled};
 ghost use Rattle.ufo_compose.specs.Compose.{message_of, add_reply};
