@@ -2,7 +2,7 @@
 -- same fields.
 -- Assumes nothing.
 use Prim.Native.Nat.{ℕ, ◌+◌, ◌-◌}
-use mathlib.Core.Path.{◌≡◌, refl, sym, ◌∙◌}
+use mathlib.Core.Path.{◌≡◌, refl, ap, sym, ◌∙◌}
 use mathlib.Core.List.{List, [], ◌∷◌, ◌++◌}
 use native.Mathlib.Omega.{arith}
 use borrow.Author.Tests.{eqb-true, leb-true, not-true}
@@ -98,7 +98,8 @@ found_from (x ∷ ms) at place m f e =
     record { skipped = 0; there = omega arith; after = write_up ms; block = rw same; fit = rw same at f.0 })
     (λ _ q.
     let r = found_from ms next place m f.1 q in
-    let gone : drop (2 + length w) (frame w ++ write_up ms) ≡ write_up ms = drop_at (frame w) (write_up ms) (2 + length w) (length-frame w) in
+    let gone : drop (2 + length w) (frame w ++ write_up ms) ≡ write_up ms = drop_at (frame w) (write_up ms) (2 + length w)
+    (length-frame w) in
     record {
       skipped = 2 + length w + r.skipped;
       there = omega (arith, r.there);
@@ -210,7 +211,8 @@ module _ (p : Packet) (f : Flat p) (body : List ℕ) (b : Bytes body) (room : �
       let w = write_message m in
       let g = given read_up cs (m ∷ []) (frame w) room d (λ c. read_one m (fit c)) e in
       let says : stated (frame w) ≡ size = be-bytes_of 2 (length w) w (omega (arith, length-message m (fit g.passed))) ∙ l in
-      rw (g.back, ← g.same, says)
+      let end : end_at d 0 ≡ 2 + size = rw (← g.same, says) in
+      rw g.back (ap (λ (next : ℕ). flat_up (up_of next (taken m))) end)
 
   -- and without a body
   alone-as : (m : Message) (size : ℕ) (cs : List Check) → (Passed cs → FitMessage m) → length (write_message m) ≡ size

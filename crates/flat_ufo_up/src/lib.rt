@@ -1,5 +1,6 @@
 // UFO, client to server, laid flat: a packet and its messages read, and a message written from its fields.
 #![tactic(auto)]
+
 ghost use Rattle.std.specs.Prelude.{◌≡◌, length};
 ghost use Rattle.wire.specs.Reply.{Settled};
 ghost use Rattle.ufo_up.specs.Up.{login};
