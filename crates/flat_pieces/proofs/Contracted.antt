@@ -10,6 +10,7 @@ use borrow.Author.Tests.{le-leb}
 use borrow.Fn.Kinds.{Dens, ended_of}
 use contract.Lifetimes.{Lfts}
 use denote.Ref.{Bor}
+use denote.MutBor.{MutBor}
 use denote.Triple.Clauses.{AtExit}
 use Rattle.soup.specs.Packet.{line_limit}
 use Rattle.soup.specs.Read.{unbroken}
@@ -41,17 +42,20 @@ ensured-permitted : (l : FlatLent) (piece : List ℕ) (place : ℕ) (r : FlatPie
     → FlatPermitted l piece place r left
 ensured-permitted l piece place r left x = rw (← x.3, ← x.4, ← x.5, ← x.6, ← x.7) x.8
 
--- references to the bytes that are lent, wherever they may lie
+-- references to the bytes that are lent, wherever they may lie: to read, and to write
 abbrev refers : List ℕ → Bor (List ℕ)
 refers s = record { ref_ptr = (0, 0); now = s }
+
+abbrev lends : List ℕ → MutBor (List ℕ)
+lends s = record { ref_ptr = (0, 0); ghost_name = 0; now = s }
 
 -- and whatever is permitted, the contract ensures of some arguments
 permitted-ensured : (l : FlatLent) (piece : List ℕ) (place : ℕ) (r : FlatPiece) (left : List ℕ) → FlatPermitted l piece place r left
     → FlatEnsured l piece place r left
 permitted-ensured l piece place r left a = (
   ([], ([], tt)),
-  (l.pieces, (refers l.buffer, (refers piece, (place, tt)))),
-  (l.pieces, (refers left, (refers piece, (place, tt)))),
+  (l.pieces, (lends l.buffer, (refers piece, (place, tt)))),
+  (l.pieces, (lends left, (refers piece, (place, tt)))),
   refl,
   refl,
   refl,

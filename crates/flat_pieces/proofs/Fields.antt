@@ -2,18 +2,19 @@
 -- Assumes nothing.
 use Prim.Native.Nat.{ℕ, ◌+◌}
 use mathlib.Core.Path.{◌≡◌, refl, sym, ap, ◌∙◌}
-use mathlib.Core.List.{List, [], ◌∷◌, append-nil}
+use mathlib.Core.List.{List, append-nil}
 use native.Mathlib.Omega.{arith}
-use denote.Enum.Declared.{tag_of}
 use lib.ListN.{length, get_or, drop_of_length-le}
 use lib.Seq.{sets, sets-eq}
-use types.Run.{OneOf, miss}
 use Rattle.wire.specs.Fields.{Bytes}
+use Rattle.wire.specs.declared.kinds.Name.{Name}
+use Rattle.wire.specs.declared.kinds.Password.{Password}
+use Rattle.wire.specs.declared.kinds.Sequence.{Sequence}
+use Rattle.wire.specs.declared.kinds.User.{User}
 use Rattle.soup.specs.Read.{read}
 use Rattle.soup.specs.Reading.{reading_of}
 use Rattle.soup.specs.declared.reading.Reading.{Reading}
 use Rattle.soup.specs.declared.reading.Reading.TheVariants as says
-use Rattle.soup.specs.contracts.reading.Reading as Reading-type
 use Rattle.flat_packet.specs.Packets.{payload, bare}
 use Rattle.flat_packet.specs.declared.Read.{Read}
 use Rattle.flat_soup.specs.Reading.{flat_soup, soup_read}
@@ -25,9 +26,15 @@ copied-whole out text l =
     let none = drop_of_length-le out {i = 0 + length text} (omega arith) in
     sets-eq text out 0 (omega arith) ∙ rw none (append-nil text)
 
--- the cases of the reader's answer that are their type alone: H Z R O
-abbrev pub alone : List ℕ
-alone = 5 ∷ 6 ∷ 9 ∷ 10 ∷ []
+-- the reader's answer is none of the cases that hold more than their type: it is H, Z, R or O
+pub record Alone (r : Reading) : Type 0 where
+  pub refused : (n : ℕ) → r ≡ says.Refused n → ⊥
+  pub debug : (start size : ℕ) → r ≡ says.Debug start size → ⊥
+  pub accept : (session : Name) (number : Sequence) → r ≡ says.Accept session number → ⊥
+  pub reject : (reason : ℕ) → r ≡ says.Reject reason → ⊥
+  pub sequenced : (start size : ℕ) → r ≡ says.Sequenced start size → ⊥
+  pub login : (user : User) (password : Password) (session : Name) (number : Sequence) → r ≡ says.Login user password session number → ⊥
+  pub unsequenced : (start size : ℕ) → r ≡ says.Unsequenced start size → ⊥
 
 module _ (d : List ℕ) (said : Reading) (e : said ≡ reading_of (read d)) where
   -- laid flat, what the reader has said is what its flat function says
@@ -43,17 +50,17 @@ module _ (d : List ℕ) (said : Reading) (e : said ≡ reading_of (read d)) wher
         let letter : kind ≡ get_or d 0 0 = rw same at (kind-is-the-type-byte d b (rw same)) in
         q ∙ rw (← letter) (sym same)
 
-    pub by-type-alone : (r : Read) → OneOf alone (tag_of Reading-type.the_type said) → r ≡ bare (get_or d 0 0) 0 → r ≡ soup_read d
-    by-type-alone r o q = by said refl o where
-      by : (x : Reading) → said ≡ x → OneOf alone (tag_of Reading-type.the_type x) → r ≡ soup_read d
-      by (says.Refused n) k o = absurd (miss alone 0 tt o)
-      by (says.Debug start size) k o = absurd (miss alone 1 tt o)
-      by (says.Accept session number) k o = absurd (miss alone 2 tt o)
-      by (says.Reject reason) k o = absurd (miss alone 3 tt o)
-      by (says.Sequenced start size) k o = absurd (miss alone 4 tt o)
-      by says.ServerHeartbeat k o = by-type says.ServerHeartbeat 72 0 0 r k refl q
-      by says.EndOfSession k o = by-type says.EndOfSession 90 0 0 r k refl q
-      by (says.Login user password session number) k o = absurd (miss alone 7 tt o)
-      by (says.Unsequenced start size) k o = absurd (miss alone 8 tt o)
-      by says.ClientHeartbeat k o = by-type says.ClientHeartbeat 82 0 0 r k refl q
-      by says.Logout k o = by-type says.Logout 79 0 0 r k refl q
+    pub by-type-alone : (r : Read) → Alone said → r ≡ bare (get_or d 0 0) 0 → r ≡ soup_read d
+    by-type-alone r o q = by said refl where
+      by : (x : Reading) → said ≡ x → r ≡ soup_read d
+      by (says.Refused n) k = absurd (o.refused n k)
+      by (says.Debug start size) k = absurd (o.debug start size k)
+      by (says.Accept session number) k = absurd (o.accept session number k)
+      by (says.Reject reason) k = absurd (o.reject reason k)
+      by (says.Sequenced start size) k = absurd (o.sequenced start size k)
+      by says.ServerHeartbeat k = by-type says.ServerHeartbeat 72 0 0 r k refl q
+      by says.EndOfSession k = by-type says.EndOfSession 90 0 0 r k refl q
+      by (says.Login user password session number) k = absurd (o.login user password session number k)
+      by (says.Unsequenced start size) k = absurd (o.unsequenced start size k)
+      by says.ClientHeartbeat k = by-type says.ClientHeartbeat 82 0 0 r k refl q
+      by says.Logout k = by-type says.Logout 79 0 0 r k refl q

@@ -1,5 +1,6 @@
 // SoupTCP as it comes off the wire, laid flat.
 #![tactic(auto)]
+
 ghost use Rattle.std.specs.Prelude.{◌≡◌, ◌+◌, ◌≤◌, length, take, drop};
 ghost use Rattle.soup.specs.Read.{read};
 ghost use Rattle.soup.specs.Reading.{reading_of};
