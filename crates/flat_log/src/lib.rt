@@ -1,5 +1,6 @@
 // The lending end: the log, and what it answers.
 #![tactic(auto)]
+
 ghost use Rattle.std.specs.Prelude.{◌≡◌, length};
 ghost use Rattle.flat.specs.Wrote.{FlatSettled};
 ghost use Rattle.flat_log.specs.Lending.{log_of, flat_log, flat_logged, FlatEntered, add_verdict, add_many_verdict, end_answer, answer_flat};

@@ -17,32 +17,32 @@ use Rattle.record.proofs.Complete.{standing-means}
 use Rattle.flat_record.specs.Keeping.{known_record, standing_answer, range_answer}
 use Rattle.flat_record.specs.declared.keeping.FlatRecord.{FlatRecord}
 
-module _ (given : FlatRecord) (r : Record) (known : known_record given ≡ taken r) (rs : List Range) (lacks : standing r ≡ taken (missing rs))
-  where
-    pub counted : standing_answer given ≡ record {
-      refusal = 0;
-      complete = 0;
-      missing = length rs;
-      first = (rs at 0).first.0;
-      last = (rs at 0).last.0;
-    }
-    counted = rw (known, lacks)
+module _ (given : FlatRecord) (r : Record) (known : known_record given ≡ taken r) (rs : List Range)
+    (lacks : standing r ≡ taken (missing rs)) where
+  pub counted : standing_answer given ≡ record {
+    refusal = 0;
+    complete = 0;
+    missing = length rs;
+    first = (rs at 0).first.0;
+    last = (rs at 0).last.0;
+  }
+  counted = rw (known, lacks)
 
-    gives : (place : ℕ) → range_at r place ≡ taken (rs at place)
-    unfolding standing range_at
-    gives place =
-        let hung : hangs r ≡ true = (all-passed ((hangs r else 10) ∷ []) (taken (state r)) (missing rs) lacks).0.0 in
-        let same : rs ≡ missing_of r = (standing-means r (missing rs) lacks).0 in
-        rw (hung, same)
+  gives : (place : ℕ) → range_at r place ≡ taken (rs at place)
+  unfolding standing range_at
+  gives place =
+      let hung : hangs r ≡ true = (all-passed ((hangs r else 10) ∷ []) (taken (state r)) (missing rs) lacks).0.0 in
+      let same : rs ≡ missing_of r = (standing-means r (missing rs) lacks).0 in
+      rw (hung, same)
 
-    pub one_by_one : (place : ℕ) → range_answer given place ≡ record {
-      refusal = 0;
-      first = (rs at place).first.0;
-      last = (rs at place).last.0;
-    }
-    one_by_one place = rw (known, gives place)
+  pub one_by_one : (place : ℕ) → range_answer given place ≡ record {
+    refusal = 0;
+    first = (rs at place).first.0;
+    last = (rs at place).last.0;
+  }
+  one_by_one place = rw (known, gives place)
 
-    pub none-past-the-last : (place : ℕ) → length rs ≤ place → range_answer given place ≡ record { refusal = 0; first = 0; last = 0 }
-    none-past-the-last place l =
-        let noughts : rs at place ≡ 0 to 0 = get_or-eq_default rs (0 to 0) l in
-        rw (one_by_one place, noughts)
+  pub none-past-the-last : (place : ℕ) → length rs ≤ place → range_answer given place ≡ record { refusal = 0; first = 0; last = 0 }
+  none-past-the-last place l =
+      let noughts : rs at place ≡ 0 to 0 = get_or-eq_default rs (0 to 0) l in
+      rw (one_by_one place, noughts)

@@ -8,4 +8,5 @@ use Rattle.flat.proofs.name.packed_name.Goals as goal
 pub returns : goal.returns
 returns c =
     let t = c.args.text.now in
-    (c.get_name.ensures, ap name_bytes c.get_name.ensures ∙ name-written t (λ i. (c.type_inv.text i).fits) (omega arith) ∙ take_all 10 t (omega arith))
+    let e = c.get_name.ensures in
+    (e, ap name_bytes e ∙ name-written t (λ i. (c.type_inv.text i).fits) (omega arith) ∙ take_all 10 t (omega arith))

@@ -8,4 +8,5 @@ use Rattle.flat.proofs.name.packed_user.Goals as goal
 pub returns : goal.returns
 returns c =
     let t = c.args.text.now in
-    (c.get_user.ensures, ap user_bytes c.get_user.ensures ∙ user-written t (λ i. (c.type_inv.text i).fits) (omega arith) ∙ take_all 6 t (omega arith))
+    let e = c.get_user.ensures in
+    (e, ap user_bytes e ∙ user-written t (λ i. (c.type_inv.text i).fits) (omega arith) ∙ take_all 6 t (omega arith))
