@@ -3,8 +3,8 @@
 
 ghost use Rattle.std.specs.Prelude.{◌≡◌, length};
 ghost use Rattle.flat.specs.Wrote.{FlatSettled};
-ghost use Rattle.flat_log.specs.Lending.{log_of, flat_log, flat_logged, FlatEntered, add_verdict, add_many_verdict, end_answer, answer_flat};
-ghost use Rattle.flat_log.specs.Lending.{heartbeat_flat, end_packet_flat};
+ghost use Rattle.flat_log.specs.Lending.{log_of, flat_log, flat_logged, FlatEntered, add_verdict, add_many_verdict, end_answer};
+ghost use Rattle.flat_log.specs.Lending.{answer_flat, heartbeat_flat, end_packet_flat};
 
 use flat::flag;
 use flat::wrote::{Wrote, wrote_of};
