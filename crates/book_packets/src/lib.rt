@@ -1,5 +1,6 @@
 // The specimen book's packets, told as their readers take them.
 #![tactic(auto)]
+
 pub mod memx_packets;
 pub mod soup_packets;
 pub mod tcp_packets;
