@@ -53,4 +53,4 @@ pub returns-in_default : goal.returns-in_default
 returns-in_default c =
     c.unnumbered-in_default.ensures
     ∙ other-taken c.args.line.now c.requires c.args.next.0 c.args.place _ c.read-said.ensures
-    (λ i. (c.shared_slice_known-2-1.given i).fits) c.if-line-eq83.false c.in_default.not-Refused c.in_default.not-Accept
+    (λ i. (c.type_inv.line i).fits) c.if-line-eq83.false c.in_default.not-Refused c.in_default.not-Accept

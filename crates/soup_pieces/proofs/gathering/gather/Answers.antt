@@ -8,7 +8,7 @@ use Rattle.soup_pieces.proofs.gathering.gather.Goals as goal
 
 pub slice_bounds-close-end-then-found-to : goal.slice_bounds-close-end-then-found-to
 slice_bounds-close-end-then-found-to c =
-    sym (length-take-le _ _ (omega (arith, c.buffer-1.given)))
+    sym (length-take-le _ _ (omega (arith, c.copy.auto.out)))
 
 pub close-requires : goal.close-requires
 close-requires c =
