@@ -18,7 +18,7 @@ use Rattle.blocks.specs.Blocks.{frame}
 use Rattle.ufo_up.specs.Up.{Message, login, request, heartbeat, logout, write_message, read_message, read_up}
 use Rattle.ufo_up.proofs.UpLonger.{Ends, longer-is-4}
 use Rattle.ufo_compose.proofs.Behind.{read-over, read_behind}
-use Rattle.ufo_compose.proofs.Adding.{Begun, so_far_lem, length_so_far}
+use Rattle.ufo_compose.proofs.Adding.{Begun, so-far-lawful, length_so_far}
 use Rattle.flat_packet.specs.declared.Packet.{Packet}
 use Rattle.flat_packet.proofs.Refusing.{None}
 use Rattle.flat_compose.specs.Adding.{unfit_behind, alone_behind, add_flat}
@@ -34,7 +34,7 @@ module _ (out : List ℕ) (used : ℕ) (g : Begun out used) where
   pub refused-behind : (w : List ℕ) (size n room : ℕ) → 2 + length w ≡ size → 0 < length w → read_message w ≡ refused n
       → unfit_behind out used size n ≡ sent w room
   refused-behind w size n room k h e =
-      let s = so_far_lem out used g in
+      let s = so-far-lawful out used g in
       let l = length_so_far out used g in
       rw (le-leb used (length out) g.inside, g.begun.is)
       (by-test (leb (used + size) limit)

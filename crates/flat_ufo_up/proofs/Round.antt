@@ -21,7 +21,8 @@ use Rattle.blocks.specs.Blocks.{frame, frames, Cut, torn, whole, upstream, state
 use Rattle.blocks.proofs.Frames.{length-frame, front-stated}
 use Rattle.ufo.specs.Numbers.{highest, held}
 use Rattle.ufo_up.specs.Up as up
-use Rattle.ufo_up.specs.Up.{Message, write_message, write_up, FitMessage, FitAll, checks_l, checks_t, checks_u, checks_alone, read_l, read_t, read_u}
+use Rattle.ufo_up.specs.Up.{Message, write_message, write_up, FitMessage, FitAll}
+use Rattle.ufo_up.specs.Up.{checks_l, checks_t, checks_u, checks_alone, read_l, read_t, read_u}
 use Rattle.ufo_up.specs.Up.{read_alone, read_message, read_each, read_cut, read_up, upstream_of, up_of, message_from, message_in}
 use Rattle.ufo_up.proofs.UpExactOne.{length-message, left_l, left_t}
 use Rattle.ufo_up.proofs.Exact.{read-is-written, read_one}

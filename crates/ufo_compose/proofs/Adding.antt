@@ -63,14 +63,14 @@ module _ (out : List ℕ) (used : ℕ) (g : Begun out used) where
   abbrev ms : List Message
   ms = g.begun.messages
 
-  pub so_far_lem : Lawful (take used out) ms
-  so_far_lem = lawful (take used out) (bytes_take used out g.bytes) ms g.begun.is
+  pub so-far-lawful : Lawful (take used out) ms
+  so-far-lawful = lawful (take used out) (bytes_take used out g.bytes) ms g.begun.is
 
   pub length_so_far : length (take used out) ≡ used
   length_so_far = rw length-take (omega (arith, g.inside))
 
   pub begun-short : used ≤ limit
-  begun-short = rw length_so_far at so_far_lem.short
+  begun-short = rw length_so_far at so-far-lawful.short
 
   module _ (m : Message) where
     pub add-over : leb (length (frame (write_message m))) (limit - used) ≡ false → add_reply m out used ≡ refused 2
@@ -98,7 +98,7 @@ module _ (out : List ℕ) (used : ℕ) (g : Begun out used) where
         let s = begun-short in
         let some = full-message (capped_in m) in
         let behind : read_up (take used out ++ frame w) ≡ read_message w into (λ x. taken (ms ++ (x ∷ []))) =
-        rw (← so_far_lem.bytes) (read_behind ms w so_far_lem.all some (rw so_far_lem.bytes (omega arith))) in
+        rw (← so-far-lawful.bytes) (read_behind ms w so-far-lawful.all some (rw so-far-lawful.bytes (omega arith))) in
         let alone : read_up (frame w) ≡ read_message w into (λ x. taken (x ∷ [])) = read_one w some
         ∙ rw (le-leb (2 + length w) limit (omega arith)) in
         rw (le-leb used (length out) g.inside, g.begun.is, behind, alone) (by (read_message w) (held_in m)) where

@@ -26,6 +26,6 @@ returns-in-Refused c =
 pub returns-in-Messages : goal.returns-in-Messages
 returns-in-Messages c =
     let a = c.args in
-    let so_far_lem = was-taken (so_far (take a.used a.out.now)) c.in-Messages.field-0 (sym c.read_so_far.ensures ∙ c.in-Messages.is) in
-    and-then-unfit a.out.now a.used (a.size + length a.body.now) _ (omega arith) so_far_lem _
+    let begun = was-taken (so_far (take a.used a.out.now)) c.in-Messages.field-0 (sym c.read_so_far.ensures ∙ c.in-Messages.is) in
+    and-then-unfit a.out.now a.used (a.size + length a.body.now) _ (omega arith) begun _
     (rw (← add_assoc a.used a.size (length a.body.now)) c.unfit.ensures)
