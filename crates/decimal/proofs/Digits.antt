@@ -1,6 +1,7 @@
 -- One character more: what the definitions say of the characters from place i on, in terms of the one at i and those after it.
 -- Assumes nothing.
-use Rattle.std.proofs.Common.{◌≡◌, ℕ, ◌+◌, ◌-◌, ◌*◌, ◌%◌, ◌^◌, ◌<◌, ◌≤◌, true, leb, List, ◌∷◌, length, get_or, drop, ◌∙◌, add-one, arith, length-drop, drop-cons, le-leb, leb-false, leb-true}
+use Rattle.std.proofs.Common.{◌≡◌, ℕ, ◌+◌, ◌-◌, ◌*◌, ◌%◌, ◌^◌, ◌<◌, ◌≤◌, true, leb, List, ◌∷◌, length, get_or, drop, ◌∙◌, add-one, arith}
+use Rattle.std.proofs.Common.{length-drop, drop-cons, le-leb, leb-false, leb-true}
 use native.Mathlib.Nat.{one-le-pow}
 use borrow.Author.Tests.{lt-leb}
 use Rattle.wire.proofs.Tests.{by-test, and_left, and_right}

@@ -1,7 +1,9 @@
 -- The digits that end a field, and what stands before them: spaces there, or nothing, and the digits are the number; anything else,
 -- and the field is misshapen.
 -- Assumes nothing.
-use Rattle.std.proofs.Common.{◌≡◌, ℕ, zero, suc, ◌+◌, ◌-◌, ◌*◌, ◌^◌, ◌<◌, ◌≤◌, true, false, ◌&&◌, eqb, leb, List, [], ◌∷◌, ◌++◌, length, get_or, take, drop, refl, ◌∙◌, true≢false, le_of_suc-le-suc, not-suc-le-zero, add_comm, arith, length-drop, take-append-drop, drop_of_length-le, ne_eqb, eqb-true, le-leb, leb-false}
+use Rattle.std.proofs.Common.{◌≡◌, ℕ, zero, suc, ◌+◌, ◌-◌, ◌*◌, ◌^◌, ◌<◌, ◌≤◌, true, false, ◌&&◌, eqb, leb, List, [], ◌∷◌, ◌++◌, length}
+use Rattle.std.proofs.Common.{get_or, take, drop, refl, ◌∙◌, true≢false, le_of_suc-le-suc, not-suc-le-zero, add_comm, arith, length-drop}
+use Rattle.std.proofs.Common.{take-append-drop, drop_of_length-le, ne_eqb, eqb-true, le-leb, leb-false}
 use mathlib.Core.Bool.{and-false}
 use native.Mathlib.Nat.{pow-le-pow_right, pow-succ'}
 use lib.Arith.{digits_lt, lt_of_le-ne}

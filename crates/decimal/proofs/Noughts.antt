@@ -1,7 +1,8 @@
 -- Noughts in front of a number's digits count for nothing: a field that is padded with them is the same number as one that is padded with
 -- spaces.
 -- Assumes nothing.
-use Rattle.std.proofs.Common.{◌≡◌, ℕ, zero, suc, ◌+◌, ◌-◌, ◌^◌, ◌<◌, ◌≤◌, true, List, [], ◌++◌, length, replicate, sym, refl, ◌∙◌, append-nil, zero-add, zero-mul, arith, length-append, le-leb}
+use Rattle.std.proofs.Common.{◌≡◌, ℕ, zero, suc, ◌+◌, ◌-◌, ◌^◌, ◌<◌, ◌≤◌, true, List, [], ◌++◌, length, replicate, sym, refl, ◌∙◌}
+use Rattle.std.proofs.Common.{append-nil, zero-add, zero-mul, arith, length-append, le-leb}
 use native.Mathlib.Nat.{pow-le-pow_right}
 use lib.ListN.{length-replicate}
 use Rattle.text.specs.Text.{blank}

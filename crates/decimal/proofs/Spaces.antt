@@ -1,6 +1,7 @@
 -- Characters that are spaces, told by parts: a part and what follows it, and parts that overlap.
 -- Assumes nothing.
-use Rattle.std.proofs.Common.{◌≡◌, ℕ, suc, ◌+◌, ◌-◌, ◌≤◌, true, false, ◌&&◌, eqb, List, [], ◌∷◌, ◌++◌, length, get_or, take, drop, sym, refl, ap, ◌∙◌, add-one, arith, drop-cons, drop-drop, take-add}
+use Rattle.std.proofs.Common.{◌≡◌, ℕ, suc, ◌+◌, ◌-◌, ◌≤◌, true, false, ◌&&◌, eqb, List, [], ◌∷◌, ◌++◌, length, get_or, take, drop, sym}
+use Rattle.std.proofs.Common.{refl, ap, ◌∙◌, add-one, arith, drop-cons, drop-drop, take-add}
 use mathlib.Core.Bool.{and-true}
 use Rattle.wire.specs.Checks.{◌is◌}
 use Rattle.wire.proofs.Tests.{by-test, and_left}

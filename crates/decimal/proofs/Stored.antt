@@ -1,6 +1,8 @@
 -- The characters of a number stored from the last one to the left, over spaces: each is the last digit of what is left of the number.
 -- Assumes nothing.
-use Rattle.std.proofs.Common.{◌≡◌, ℕ, zero, suc, ◌+◌, ◌-◌, ◌/◌, ◌%◌, ◌^◌, ◌<◌, ◌≤◌, leb, List, ◌∷◌, ◌++◌, set, replicate, sym, ap, ◌∙◌, mul_comm, div-lt_iff_lt-mul, pos_of_ne-zero, suc-add, one-mul, le-div_iff_mul-le, zero-add, div-one, arith, leb-false, leb-true}
+use Rattle.std.proofs.Common.{◌≡◌, ℕ, zero, suc, ◌+◌, ◌-◌, ◌/◌, ◌%◌, ◌^◌, ◌<◌, ◌≤◌, leb, List, ◌∷◌, ◌++◌, set, replicate, sym, ap, ◌∙◌}
+use Rattle.std.proofs.Common.{mul_comm, div-lt_iff_lt-mul, pos_of_ne-zero, suc-add, one-mul, le-div_iff_mul-le, zero-add, div-one, arith}
+use Rattle.std.proofs.Common.{leb-false, leb-true}
 use native.Mathlib.Nat.{pow-succ', pow-le-pow_right, div-div-eq-div-mul}
 use Rattle.wire.proofs.Tests.{by-test}
 use Rattle.decimal.specs.Decimal.{character, places, written}

@@ -1,6 +1,7 @@
 -- A number on the wire: twenty characters, spaces and then digits.
 -- Assumes nothing.
-use Rattle.std.specs.Prelude.{ℕ, zero, suc, ◌+◌, ◌-◌, ◌*◌, ◌/◌, ◌%◌, ◌^◌, Bool, true, not, ◌&&◌, ◌||◌, List, [], ◌∷◌, length, slice_index_or}
+use Rattle.std.specs.Prelude.{ℕ, zero, suc, ◌+◌, ◌-◌, ◌*◌, ◌/◌, ◌%◌, ◌^◌, Bool, true, not, ◌&&◌, ◌||◌, List, [], ◌∷◌, length}
+use Rattle.std.specs.Prelude.{slice_index_or}
 use Rattle.wire.specs.Checks.{if◌then◌else◌, ◌is◌, ◌at_most◌}
 use Rattle.text.specs.Text.{blank}
 use Rattle.decimal.specs.declared.Number.{Number}

@@ -119,7 +119,8 @@ module _ (entry : FlatEntry) (allows : (l : FlatLent) (piece : List ℕ) (place 
       → FlatUnderway entry piece l place calls last at
       → (place + calls ≤ at) × (at ≤ length piece) × Ready (lent_of last)
   program-calls-few piece l place calls last at h p us =
-      calls-are-few Permitted (λ _ _ _ _ _ a. a) piece (lent_of l) place calls (lent_of last) at h p (underway piece l place calls last at us)
+      calls-are-few Permitted (λ _ _ _ _ _ a. a) piece (lent_of l) place calls (lent_of last) at h p
+      (underway piece l place calls last at us)
 
 -- ---- each call of the room is one of a program, so that calling comes to an end
 

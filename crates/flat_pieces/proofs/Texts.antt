@@ -8,7 +8,8 @@ use lib.ListN.{length, get_or, take, drop}
 use Rattle.wire.specs.Checks.{Verdict, refused, taken}
 use Rattle.wire.specs.Fields.{Bytes}
 use Rattle.names.specs.Names.{name_bytes, user_bytes}
-use Rattle.soup.specs.Packet.{Packet, debug, accept, reject, sequenced, server_heartbeat, end_of_session, login, unsequenced, client_heartbeat}
+use Rattle.soup.specs.Packet.{Packet, debug, accept, reject, sequenced, server_heartbeat, end_of_session, login, unsequenced}
+use Rattle.soup.specs.Packet.{client_heartbeat}
 use Rattle.soup.specs.Packet.{logout, write, Fit}
 use Rattle.soup.specs.Read.{read}
 use Rattle.soup.specs.Reading.{packet_of, reading_of}

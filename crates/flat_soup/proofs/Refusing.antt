@@ -29,7 +29,8 @@ module _ (A : Type 0) (d : List ℕ) (room : ℕ) where
   unknown-line size l h = unknown A d room (1 at_most length d) line_limit size (le-leb 1 (length d) (omega arith)) l
 
   beyond-line : (size : ℕ) (body : List ℕ) (reply : Reply) (v : Verdict A) → length d ≡ size + length body → 0 < length body
-      → alone line_limit size body reply ≡ settle (opened (1 at_most length d) line_limit d (if length d is size then v else refused 4)) d room
+      → alone line_limit size body reply
+      ≡ settle (opened (1 at_most length d) line_limit d (if length d is size then v else refused 4)) d room
   beyond-line size body reply v l h =
       beyond A d room (1 at_most length d) line_limit size (le-leb 1 (length d) (omega arith)) body reply v l h
 

@@ -86,7 +86,8 @@ module _ (d : List ℕ) (b : Bytes d) where
       (spelling d) (read d) (λ q e. let l = read-is-written d q b e in (l.0, l.1)) (never-under-0 d) (λ n. refl)
 
   -- what holds of every packet that was read
-  took : (P : Read → Type 0) → ((q : soup.Packet) → read d ≡ taken q → P (flat_soup (packet_of q))) → (soup_read d).refusal ≡ 0 → P (soup_read d)
+  took : (P : Read → Type 0) → ((q : soup.Packet) → read d ≡ taken q → P (flat_soup (packet_of q))) → (soup_read d).refusal ≡ 0
+      → P (soup_read d)
   took P = told-as-0 (λ v. flat_soup (reading_of v)) P (λ n. refl) (read d) (never-under-0 d)
 
   -- What was read, written with its body, is its spelling.

@@ -3,7 +3,8 @@
 use Rattle.std.specs.Prelude.{ℕ, ◌+◌, List, length}
 use Rattle.wire.specs.Checks.{if◌then◌else◌, ◌is◌}
 use Rattle.wire.specs.Reply.{Reply}
-use Rattle.soup.specs.Packet.{debug, accept, reject, sequenced, server_heartbeat, end_of_session, login, unsequenced, client_heartbeat, logout}
+use Rattle.soup.specs.Packet.{debug, accept, reject, sequenced, server_heartbeat, end_of_session, login, unsequenced, client_heartbeat}
+use Rattle.soup.specs.Packet.{logout}
 use Rattle.soup.specs.Packet.{line_limit}
 use Rattle.soup_write.specs.Writing as soup
 use Rattle.flat_packet.specs.declared.Packet.{Packet}

@@ -189,7 +189,8 @@ module _ (d : List ℕ) (b : Bytes d) (o : Passed (opening d)) (p : Packet) wher
 
   -- a number that was read, where it stands in d
   numbered : (before s : List ℕ) (place : ℕ) → length before ≡ place → length s ≡ 20 → before ++ s ++ 10 ∷ [] ≡ d → well_formed s ≡ true
-      → not (blank s) ≡ true → let w = before ++ written (value_of s) ++ 10 ∷ [] in (w ≡ spelt_anew d place) × (leading_zero s ≡ false → w ≡ d)
+      → not (blank s) ≡ true
+      → let w = before ++ written (value_of s) ++ 10 ∷ [] in (w ≡ spelt_anew d place) × (leading_zero s ≡ false → w ≡ d)
   numbered before s place m l all f e = (
     sym (anew before s (10 ∷ []) place m l) ∙ ap (λ (x : List ℕ). spelt_anew x place) all,
     λ u. ap (λ (x : List ℕ). before ++ x ++ 10 ∷ []) (written_read s l f (not-true (blank s) e) u) ∙ all,

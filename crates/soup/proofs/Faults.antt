@@ -31,7 +31,8 @@ module _ {A : Type 0} (v : Verdict A) (n : ℕ) where
       (λ t. let q : n ≡ c.number = rw t at e in
       absurd (eqb-false c.number 0 (not-true (eqb c.number 0) (and_left (not (eqb c.number 0)) (numbered cs) k)) (sym q ∙ z)))
 
-pub reading-of : (cs : List Check) (v : Verdict Packet) → numbered cs ≡ true → or_refused (fault cs) (reading_of v) ≡ reading_of (checked cs v)
+pub reading-of : (cs : List Check) (v : Verdict Packet) → numbered cs ≡ true → or_refused (fault cs) (reading_of v)
+    ≡ reading_of (checked cs v)
 reading-of cs v k =
     by-test (eqb (fault cs) 0)
     (λ t. rw (t, faultless v (fault cs) cs k refl (eqb-true (fault cs) 0 t)))

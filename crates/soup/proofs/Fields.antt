@@ -9,7 +9,8 @@ use Rattle.wire.specs.Checks.{Check, Passed, checked, taken}
 use Rattle.wire.proofs.Checks.{all-passed, taken-same}
 use Rattle.decimal.specs.Decimal.{value_of}
 use Rattle.soup.specs.Packet.{Packet, accept, login}
-use Rattle.soup.specs.Read.{opening, field, sized_checks, accept_checks, login_checks, accept_of, login_of, read_accept, read_login, by_type}
+use Rattle.soup.specs.Read.{opening, field, sized_checks, accept_checks, login_checks, accept_of, login_of, read_accept, read_login}
+use Rattle.soup.specs.Read.{by_type}
 use Rattle.soup.specs.Read.{read}
 
 -- a line of n bytes that was read as p, which is this packet, by these checks of its fields

@@ -67,7 +67,8 @@ abbrev password : List ℕ
 password = replicate 10 32
 
 pub login-from-nought : read (line 76 (user ++ password ++ session ++ replicate 20 48)) ≡ taken (login user password session 0)
-unfolding read login_of unbroken text_then_spaces spaces_then_text text letter_or_digit blank well_formed value_of trimmed digits digit spelt
+unfolding read login_of unbroken text_then_spaces spaces_then_text text letter_or_digit blank well_formed value_of trimmed digits digit
+    spelt
 login-from-nought = refl
 
 -- a type byte alone, and a reason that is a linefeed

@@ -44,7 +44,8 @@ module _ (absent : Bool) (void : ℕ → Bool) (packet : ℕ → Packet) (bounde
 
   by_number_lem : (number : List ℕ) → length number ≡ 20
       → checked ((well_formed number else 5) ∷ (not absent else 6) ∷ (not (blank number) else 6) ∷ (not (void (value_of number)) else 6)
-      ∷ (value_of number at_most 2 ^ 64 - 1 else 7) ∷ []) (taken (packet (value_of number))) ≡ by_number absent void packet (number_of number)
+      ∷ (value_of number at_most 2 ^ 64 - 1 else 7) ∷ []) (taken (packet (value_of number)))
+      ≡ by_number absent void packet (number_of number)
   unfolding number_of
   by_number_lem number l =
       by-test (well_formed number)
@@ -67,7 +68,8 @@ accept-together session number l =
 
 pub login-together : (user password session number : List ℕ) → length number ≡ 20
     → login_of user password session number
-    ≡ (if text_then_spaces user && text_then_spaces password && spaces_then_text session then login_by user password session (number_of number)
+    ≡ (if text_then_spaces user && text_then_spaces password && spaces_then_text session then login_by user password session
+    (number_of number)
     else refused 5)
 unfolding login_of
 login-together user password session number l =

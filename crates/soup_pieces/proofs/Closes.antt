@@ -17,7 +17,8 @@ use Rattle.wire.proofs.Checks.{passed-all}
 use Rattle.wire.proofs.Tests.{by-test, impossible}
 use Rattle.wire.specs.declared.kinds.Name.{Name}
 use Rattle.wire.specs.declared.kinds.Sequence.{Sequence}
-use Rattle.soup.specs.Packet.{Packet, debug, accept, reject, sequenced, server_heartbeat, end_of_session, login, unsequenced, client_heartbeat}
+use Rattle.soup.specs.Packet.{Packet, debug, accept, reject, sequenced, server_heartbeat, end_of_session, login, unsequenced}
+use Rattle.soup.specs.Packet.{client_heartbeat}
 use Rattle.soup.specs.Packet.{logout, write}
 use Rattle.soup.specs.Read.{last, payload, unbroken, line_checks, read}
 use Rattle.soup.specs.Reading.{packet_of, reading_of}
@@ -153,7 +154,8 @@ module _ (d : List ℕ) (l : Line d) (next place : ℕ) where
       by (refused m) q z = impossible cc
       by (taken p) q z = rw (second next d p q number.0 ((role-by-answer p).accepted session number z) n)
 
-    pub other-taken : Bytes d → (get_or d 0 0 ≡ 83 → ⊥) → ((n : ℕ) → r ≡ Refused n → ⊥) → Other r → unnumbered r (length d) next place ≡ closed d next place
+    pub other-taken : Bytes d → (get_or d 0 0 ≡ 83 → ⊥) → ((n : ℕ) → r ≡ Refused n → ⊥) → Other r → unnumbered r (length d) next place
+        ≡ closed d next place
     unfolding closed judge
     other-taken b f h k = by (read d) refl where
       by : (v : Verdict Packet) → read d ≡ v → unnumbered r (length d) next place ≡ closed d next place

@@ -13,7 +13,8 @@ use borrow.Author.Tests.{eqb-true, eqb-false, leb-false}
 use Rattle.wire.specs.Checks.{Verdict, refused, taken, checked, Passed}
 use Rattle.wire.proofs.Checks.{went, all-passed, taken-same}
 use Rattle.wire.proofs.Tests.{by-test, impossible}
-use Rattle.soup.specs.Packet.{Packet, debug, accept, reject, sequenced, server_heartbeat, end_of_session, login, unsequenced, client_heartbeat}
+use Rattle.soup.specs.Packet.{Packet, debug, accept, reject, sequenced, server_heartbeat, end_of_session, login, unsequenced}
+use Rattle.soup.specs.Packet.{client_heartbeat}
 use Rattle.soup.specs.Packet.{logout, line_limit}
 use Rattle.soup.specs.Read.{last, read}
 use Rattle.soup_pieces.specs.Machine.{Machine, Yield, packet, refusal, Eaten, role_of, turn_checks, number_of, next_after, judge}

@@ -10,7 +10,8 @@ use Rattle.soup_pieces.specs.Machine.{Role, begins, counted, neither, turn_check
 use Rattle.soup_pieces.specs.Eating.{ready, call_checks, eating}
 use Rattle.soup_pieces.specs.declared.Pieces.{Pieces}
 
-pub call-order : (pieces : Pieces) (buffer piece : List ℕ) (place : ℕ) → in_order (10 ∷ 4 ∷ []) (call_checks pieces buffer piece place) ≡ true
+pub call-order : (pieces : Pieces) (buffer piece : List ℕ) (place : ℕ) → in_order (10 ∷ 4 ∷ []) (call_checks pieces buffer piece place)
+    ≡ true
 call-order pieces buffer piece place = refl
 
 -- a broken state is 10, wherever the place is

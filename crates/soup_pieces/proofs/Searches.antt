@@ -19,7 +19,8 @@ use Rattle.soup.proofs.Linefeed.{more}
 pub unbroken-before : (s : List ℕ) → unbroken (take (index_of 10 s) s) ≡ true
 unfolding unbroken index_of index_after
 unbroken-before [] = refl
-unbroken-before (b ∷ s) = by-test (eqb b 10) (λ e. rw e) (λ e. rw e (more b (take (index_of 10 s) s) (eqb-false b 10 e) (unbroken-before s)))
+unbroken-before (b ∷ s) = by-test (eqb b 10) (λ e. rw e)
+    (λ e. rw e (more b (take (index_of 10 s) s) (eqb-false b 10 e) (unbroken-before s)))
 
 pub linefeed-there : (s : List ℕ) → index_of 10 s < length s → get_or s (index_of 10 s) 0 ≡ 10
 unfolding index_of index_after

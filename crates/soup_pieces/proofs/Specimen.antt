@@ -38,7 +38,8 @@ pub comes-out : yielded (fates (empty false 0) offered)
     ∷ refusal accepted 16
     ∷ packet message (sequenced (72 ∷ 73 ∷ [])) 2
     ∷ []
-unfolding fates yielded eat judge read accept_of unbroken spaces_then_text text letter_or_digit blank well_formed value_of trimmed digits digit
+unfolding fates yielded eat judge read accept_of unbroken spaces_then_text text letter_or_digit blank well_formed value_of trimmed digits
+    digit
     spelt
 comes-out = refl
 

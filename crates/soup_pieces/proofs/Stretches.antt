@@ -70,7 +70,8 @@ module _ (next : ℕ) where
       → first (holding k) (t ++ 10 ∷ bs) ≡ line_given (k ++ t ++ 10 ∷ []) bs (judge next (k ++ t ++ 10 ∷ []))
   unfolding first
   closes k t bs u h = kept_on k t (10 ∷ bs) u h ∙ by (judge next (k ++ t ++ 10 ∷ [])) refl where
-    by : (v : Verdict Packet) → judge next (k ++ t ++ 10 ∷ []) ≡ v → first (holding (k ++ t)) (10 ∷ bs) ≡ line_given (k ++ t ++ 10 ∷ []) bs v
+    by : (v : Verdict Packet) → judge next (k ++ t ++ 10 ∷ []) ≡ v → first (holding (k ++ t)) (10 ∷ bs)
+        ≡ line_given (k ++ t ++ 10 ∷ []) bs v
     by (refused why) e = rw (eat-line (k ++ t), e)
     by (taken p) e = rw (eat-line (k ++ t), e)
 

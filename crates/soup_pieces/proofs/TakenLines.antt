@@ -12,7 +12,8 @@ use Rattle.wire.proofs.Checks.{all-passed, taken-same, not-both}
 use Rattle.wire.proofs.Tests.{impossible}
 use Rattle.decimal.specs.Decimal.{value_of}
 use Rattle.soup.specs.Packet.{Packet, accept, reject, login}
-use Rattle.soup.specs.Read.{last, opening, line_checks, sized_checks, reject_checks, accept_checks, login_checks, reject_of, accept_of, login_of}
+use Rattle.soup.specs.Read.{last, opening, line_checks, sized_checks, reject_checks, accept_checks, login_checks, reject_of, accept_of}
+use Rattle.soup.specs.Read.{login_of}
 use Rattle.soup.specs.Read.{by_type, read}
 use Rattle.soup.proofs.Types.{every-type, unknown-is-3}
 use Rattle.soup_pieces.specs.Machine.{begins, counted, neither, role_of}

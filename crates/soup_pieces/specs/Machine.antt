@@ -2,7 +2,8 @@
 -- Assumes nothing.
 use Rattle.std.specs.Prelude.{ℕ, suc, ◌-◌, ◌^◌, List, [], ◌∷◌, ◌++◌, Bool, true, false, not, length}
 use Rattle.wire.specs.Checks.{if◌then◌else◌, ◌is◌, ◌at_most◌, Verdict, refused, taken, Check, ◌else◌, checked, ◌into◌}
-use Rattle.soup.specs.Packet.{Packet, debug, accept, reject, sequenced, server_heartbeat, end_of_session, login, unsequenced, client_heartbeat}
+use Rattle.soup.specs.Packet.{Packet, debug, accept, reject, sequenced, server_heartbeat, end_of_session, login, unsequenced}
+use Rattle.soup.specs.Packet.{client_heartbeat}
 use Rattle.soup.specs.Packet.{logout, line_limit}
 use Rattle.soup.specs.Read.{read}
 
@@ -81,7 +82,8 @@ empty dropping next = record { kept = []; dropping = dropping; next = next }
 -- numbered in turn
 abbrev pub ended : ℕ → List ℕ → Verdict Packet → Eaten
 ended next d (refused why) = record { fate = gives (refusal d why); machine = empty false next }
-ended next d (taken p) = record { fate = gives (packet d p (number_of next (role_of p))); machine = empty false (next_after next (role_of p)) }
+ended next d (taken p) = record
+    { fate = gives (packet d p (number_of next (role_of p))); machine = empty false (next_after next (role_of p)) }
 
 -- a linefeed ends what is dropped, or a packet; a packet whose 4,098th byte is none is refused there, and the rest is dropped; `Whole`
 -- shows that nothing is lost, `Overlong` that it is refused once

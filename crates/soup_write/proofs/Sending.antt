@@ -12,7 +12,8 @@ use lib.ListN.{length}
 use borrow.Author.Tests.{ne_eqb, eqb-true, eqb-false}
 use Rattle.wire.specs.Checks.{if◌then◌else◌, Verdict, refused, taken, checked}
 use Rattle.wire.specs.Reply.{within, settle}
-use Rattle.soup.specs.Packet.{Packet, debug, accept, reject, sequenced, server_heartbeat, end_of_session, login, unsequenced, client_heartbeat}
+use Rattle.soup.specs.Packet.{Packet, debug, accept, reject, sequenced, server_heartbeat, end_of_session, login, unsequenced}
+use Rattle.soup.specs.Packet.{client_heartbeat}
 use Rattle.soup.specs.Packet.{logout, line, carries}
 use Rattle.soup.specs.Read.{payload, unbroken, line_checks, by_type}
 use Rattle.soup.specs.Reading.{packet_of, reading_of}
@@ -70,7 +71,8 @@ module _ (kind : ℕ) (s : List ℕ) (room : ℕ) where
       (λ t. rw (last_line kind s, front-line kind s, ne_eqb kind 10 k, t))
       (λ t. rw (last_line kind s, front-line kind s, ne_eqb kind 10 k, t))
 
-  under : (n : ℕ) (p : Packet) → by_type n (line kind s) ≡ checked (line_checks (line kind s)) (taken p) → eqb n 10 ≡ false → length s ≤ 4096
+  under : (n : ℕ) (p : Packet) → by_type n (line kind s) ≡ checked (line_checks (line kind s)) (taken p) → eqb n 10 ≡ false
+      → length s ≤ 4096
       → eqb kind n ≡ true → Decided
   under n p b z h t =
       let q : kind ≡ n = eqb-true kind n t in

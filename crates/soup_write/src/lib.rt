@@ -4,7 +4,8 @@
 ghost use Rattle.std.specs.Prelude.{◌≡◌, [], true, length};
 ghost use Rattle.names.specs.Names.{name_bytes, user_bytes};
 ghost use Rattle.wire.specs.Reply.{Settled};
-ghost use Rattle.soup.specs.Packet.{debug, accept, reject, sequenced, server_heartbeat, end_of_session, login, unsequenced, client_heartbeat};
+ghost use Rattle.soup.specs.Packet.{debug, accept, reject, sequenced, server_heartbeat, end_of_session, login, unsequenced};
+ghost use Rattle.soup.specs.Packet.{client_heartbeat};
 ghost use Rattle.soup.specs.Packet.{logout, line, carries};
 ghost use Rattle.soup_write.specs.Writing.{sent, reply};
 

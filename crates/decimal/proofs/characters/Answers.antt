@@ -19,7 +19,8 @@ pub bounds-s-i : goal.bounds-s-i
 bounds-s-i c = omega arith
 
 pub loop-rest-smaller : goal.loop-rest-smaller
-loop-rest-smaller c = let p : 1 ≤ c.loop-rest.i = room _ _ _ c.loop-rest.invariant.0 c.loop-rest.invariant.1 c.loop-rest-test.true (omega arith) in omega arith
+loop-rest-smaller c = let p : 1 ≤ c.loop-rest.i = room _ _ _ c.loop-rest.invariant.0 c.loop-rest.invariant.1 c.loop-rest-test.true
+    (omega arith) in omega arith
 
 pub loop-rest-preserved : goal.loop-rest-preserved
 loop-rest-preserved c =
@@ -27,7 +28,8 @@ loop-rest-preserved c =
     let e : c.loop-rest.i ≡ suc (c.loop-rest.i - 1) = omega arith in (
       omega arith,
       next-rest _ _ _ c.loop-rest.invariant.0 c.loop-rest.invariant.1 c.loop-rest-test.true _ e,
-      rw c.loop-rest.invariant.2 (next-stored _ _ _ c.loop-rest.invariant.0 c.loop-rest.invariant.1 c.loop-rest-test.true _ _ e c.last_digit-in-loop-rest.ensures),
+      rw c.loop-rest.invariant.2
+          (next-stored _ _ _ c.loop-rest.invariant.0 c.loop-rest.invariant.1 c.loop-rest-test.true _ _ e c.last_digit-in-loop-rest.ensures),
     )
 
 pub returns : goal.returns

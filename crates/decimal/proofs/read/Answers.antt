@@ -12,7 +12,8 @@ returns-then-s-ne20 c = rw (ne_eqb _ 20 c.if-s-ne20.true)
 
 pub twenty-requires : goal.twenty-requires
 twenty-requires c =
-    rw c.tail_of-tail.ensures.2 (below c.args.s.now c.tail_of-tail.result.count c.if-s-ne20.false c.tail_of-tail.ensures.0 c.tail_of-tail.ensures.1)
+    rw c.tail_of-tail.ensures.2
+    (below c.args.s.now c.tail_of-tail.result.count c.if-s-ne20.false c.tail_of-tail.ensures.0 c.tail_of-tail.ensures.1)
 
 pub returns-then-tail-first : goal.returns-then-tail-first
 returns-then-tail-first c =
@@ -20,19 +21,24 @@ returns-then-tail-first c =
     let p = both _ _ c.if-tail-first.true in
     let k : c.tail_of-tail.result.count ≡ 19 = eqb-true _ 19 p.0 in
     let d = leb-true _ 9 p.1 in
-    c.twenty.ensures ∙ sym (of-twenty s _ _ c.if-s-ne20.false (c.figure-first.ensures.0 ∙ le-leb _ 9 d) (c.figure-first.ensures.1 d) (rw k at c.tail_of-tail.ensures.1) (rw k at c.tail_of-tail.ensures.2))
+    c.twenty.ensures ∙ sym (of-twenty s _ _ c.if-s-ne20.false (c.figure-first.ensures.0 ∙ le-leb _ 9 d) (c.figure-first.ensures.1 d)
+    (rw k at c.tail_of-tail.ensures.1) (rw k at c.tail_of-tail.ensures.2))
 
 pub returns-then-not-are_spaces : goal.returns-then-not-are_spaces
 returns-then-not-are_spaces c =
     let s = c.args.s.now in
-    let stop = stops s _ c.figure-first.result c.tail_of-tail.ensures.0 c.tail_of-tail.ensures.3 c.figure-first.ensures.0 c.if-tail-first.false in
-    sym (misshapen s _ c.if-s-ne20.false c.tail_of-tail.ensures.0 c.tail_of-tail.ensures.1 stop (failed c.are_spaces.ensures c.if-not-are_spaces.true-raw))
+    let stop = stops s _ c.figure-first.result c.tail_of-tail.ensures.0 c.tail_of-tail.ensures.3 c.figure-first.ensures.0
+    c.if-tail-first.false in
+    sym (misshapen s _ c.if-s-ne20.false c.tail_of-tail.ensures.0 c.tail_of-tail.ensures.1 stop
+    (failed c.are_spaces.ensures c.if-not-are_spaces.true-raw))
 
 pub returns-then-tail-eq0 : goal.returns-then-tail-eq0
 returns-then-tail-eq0 c =
-    sym (none _ _ c.if-s-ne20.false c.tail_of-tail.ensures.0 c.tail_of-tail.ensures.1 (held c.are_spaces.ensures c.if-not-are_spaces.false-raw) c.if-tail-eq0.true)
+    sym (none _ _ c.if-s-ne20.false c.tail_of-tail.ensures.0 c.tail_of-tail.ensures.1
+    (held c.are_spaces.ensures c.if-not-are_spaces.false-raw) c.if-tail-eq0.true)
 
 pub returns : goal.returns
 returns c =
-    ap Is c.tail_of-tail.ensures.2 ∙ sym (number _ _ c.if-s-ne20.false c.tail_of-tail.ensures.0 c.tail_of-tail.ensures.1 (held c.are_spaces.ensures c.if-not-are_spaces.false-raw)
+    ap Is c.tail_of-tail.ensures.2 ∙ sym (number _ _ c.if-s-ne20.false c.tail_of-tail.ensures.0 c.tail_of-tail.ensures.1
+    (held c.are_spaces.ensures c.if-not-are_spaces.false-raw)
     (pos_of_ne-zero c.if-tail-eq0.false))

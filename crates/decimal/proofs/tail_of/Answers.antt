@@ -10,7 +10,8 @@ use Rattle.decimal.proofs.tail_of.Goals as goal
 this-turn : (c : Else-d-gt9) → Turn c.args.s.now c.loop-k.k c.figure-d.result c.loop-k.value
     (get_or (powers 20 0) c.loop-k.k 0)
 this-turn c =
-    turn _ _ _ _ _ c.requires c.loop-k-test.true c.loop-k.invariant.1 c.loop-k.invariant.2 c.figure-d.ensures.0 c.figure-d.ensures.1 c.if-d-gt9.false
+    turn _ _ _ _ _ c.requires c.loop-k-test.true c.loop-k.invariant.1 c.loop-k.invariant.2 c.figure-d.ensures.0 c.figure-d.ensures.1
+    c.if-d-gt9.false
     (power_at 20 _ (omega arith))
 
 pub loop-k-init : goal.loop-k-init

@@ -17,7 +17,8 @@ pub slice_bounds-with_fields-end : goal.slice_bounds-with_fields-end
 slice_bounds-with_fields-end c = (is_read (goal.at.slice_bounds-with_fields-end c).In-Packet).fits
 
 pub slice_bounds-with_fields-end-in-Packet : goal.slice_bounds-with_fields-end-in-Packet
-slice_bounds-with_fields-end-in-Packet c = sym (length-take-le _ _ (is_read (goal.at.slice_bounds-with_fields-end-in-Packet c).In-Packet).fits)
+slice_bounds-with_fields-end-in-Packet c = sym
+    (length-take-le _ _ (is_read (goal.at.slice_bounds-with_fields-end-in-Packet c).In-Packet).fits)
 
 pub with_fields-requires : goal.with_fields-requires
 with_fields-requires c =

@@ -60,11 +60,13 @@ returns-in-Debug c =
 
 pub returns-in-Sequenced : goal.returns-in-Sequenced
 returns-in-Sequenced c =
-    by-type c.args.bytes.now c.args.said c.requires (λ i. (c.type_inv.bytes i).fits) _ 83 _ _ _ c.in-Sequenced.is refl c.payload-in-Sequenced.ensures
+    by-type c.args.bytes.now c.args.said c.requires (λ i. (c.type_inv.bytes i).fits) _ 83 _ _ _ c.in-Sequenced.is refl
+    c.payload-in-Sequenced.ensures
 
 pub returns-in-Unsequenced : goal.returns-in-Unsequenced
 returns-in-Unsequenced c =
-    by-type c.args.bytes.now c.args.said c.requires (λ i. (c.type_inv.bytes i).fits) _ 85 _ _ _ c.in-Unsequenced.is refl c.payload-in-Unsequenced.ensures
+    by-type c.args.bytes.now c.args.said c.requires (λ i. (c.type_inv.bytes i).fits) _ 85 _ _ _ c.in-Unsequenced.is refl
+    c.payload-in-Unsequenced.ensures
 
 pub returns-in_default : goal.returns-in_default
 returns-in_default c =

@@ -62,5 +62,6 @@ returns-in_default c =
     let a = c.args in
     let k = a.kind in
     let n = length a.body.now in
-    unfits _ _ line_limit (2 + n) 3 _ (rw (ne_eqb k 72 (omega arith), ne_eqb k 90 (omega arith), ne_eqb k 82 (omega arith), ne_eqb k 79 (omega arith)))
+    unfits _ _ line_limit (2 + n) 3 _
+    (rw (ne_eqb k 72 (omega arith), ne_eqb k 90 (omega arith), ne_eqb k 82 (omega arith), ne_eqb k 79 (omega arith)))
     c.unfit-in_default.ensures

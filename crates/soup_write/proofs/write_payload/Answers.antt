@@ -39,7 +39,8 @@ pub returns-then-out-length : goal.returns-then-out-length
 returns-then-out-length c =
     let a = c.args in
     let l = length-line a.kind a.payload.now in
-    lacks-room _ (line a.kind a.payload.now) a.out.now (room-decides (goal.at.returns-then-out-length c).Else-not-is_unbroken) (omega (arith, c.if-out-length.true))
+    lacks-room _ (line a.kind a.payload.now) a.out.now (room-decides (goal.at.returns-then-out-length c).Else-not-is_unbroken)
+    (omega (arith, c.if-out-length.true))
 
 pub copy-requires : goal.copy-requires
 copy-requires c = simp length-set (omega arith)
@@ -61,5 +62,6 @@ returns c =
     let a = c.args in
     let s = a.payload.now in
     let l = length-line a.kind s in
-    has_room _ (line a.kind s) a.out.now (room-decides (goal.at.returns c).Else-not-is_unbroken) _ (length s + 2) (omega arith) (omega (arith, c.if-out-length.false))
+    has_room _ (line a.kind s) a.out.now (room-decides (goal.at.returns c).Else-not-is_unbroken) _ (length s + 2) (omega arith)
+    (omega (arith, c.if-out-length.false))
     (rw (c.copy.ensures, take-length s) (stored-line a.out.now s a.kind))

@@ -46,4 +46,9 @@ returns-else-absent c =
 
 pub returns-else-absent-n : goal.returns-else-absent-n
 returns-else-absent-n c =
-    rw (read_as (goal.at.returns-else-absent-n c).After-read (Is c.in-Is.n) c.in-Is.is, ← c.is_blank-absent.ensures, c.if-absent-n.false, c.get_name.ensures)
+    rw (
+      read_as (goal.at.returns-else-absent-n c).After-read (Is c.in-Is.n) c.in-Is.is,
+      ← c.is_blank-absent.ensures,
+      c.if-absent-n.false,
+      c.get_name.ensures,
+    )

@@ -20,7 +20,8 @@ returns-then-not-padded c =
     let a = c.args in
     rw (
       login-together a.user.now a.password.now a.session.now a.digits.now c.requires.3,
-      failed (same _ _ _ c.is_text_then_spaces.ensures c.is_text_then_spaces-2.ensures c.is_spaces_then_text.ensures) c.if-not-padded.true-raw,
+      failed (same _ _ _ c.is_text_then_spaces.ensures c.is_text_then_spaces-2.ensures c.is_spaces_then_text.ensures)
+          c.if-not-padded.true-raw,
     )
 
 -- they are, and the number was read as n
@@ -31,7 +32,8 @@ read_as c n e =
     let a = c.args in
     rw (
       login-together a.user.now a.password.now a.session.now a.digits.now c.requires.3,
-      held (same _ _ _ c.is_text_then_spaces.ensures c.is_text_then_spaces-2.ensures c.is_spaces_then_text.ensures) c.if-not-padded.false-raw,
+      held (same _ _ _ c.is_text_then_spaces.ensures c.is_text_then_spaces-2.ensures c.is_spaces_then_text.ensures)
+          c.if-not-padded.false-raw,
       ← c.read.ensures,
       e,
     )
@@ -42,7 +44,11 @@ returns-then-nameless c =
 
 pub returns-then-nameless-2 : goal.returns-then-nameless-2
 returns-then-nameless-2 c =
-    rw (read_as (goal.at.returns-then-nameless-2 c).After-read (Is c.in-Is.n) c.in-Is.is, ← c.is_blank-nameless.ensures, c.if-nameless-2.true)
+    rw (
+      read_as (goal.at.returns-then-nameless-2 c).After-read (Is c.in-Is.n) c.in-Is.is,
+      ← c.is_blank-nameless.ensures,
+      c.if-nameless-2.true,
+    )
 
 pub returns-in-Misshapen : goal.returns-in-Misshapen
 returns-in-Misshapen c = rw (read_as (goal.at.returns-in-Misshapen c).After-read Misshapen c.in-Misshapen.is)

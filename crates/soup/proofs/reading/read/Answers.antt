@@ -14,7 +14,8 @@ returns-then-d-gt-LONGEST c = rw (overlong c.args.d.now c.if-d-gt-LONGEST.true)
 
 pub returns-in-43 : goal.returns-in-43
 returns-in-43 c =
-    rw (by-type c.args.d.now 43 c.if-d-eq0.false c.if-d-gt-LONGEST.false c.in-43.is) (carried-as c.args.d.now debug (Debug 1) (λ s. refl) _ _ c.payload_length-length.ensures
+    rw (by-type c.args.d.now 43 c.if-d-eq0.false c.if-d-gt-LONGEST.false c.in-43.is)
+    (carried-as c.args.d.now debug (Debug 1) (λ s. refl) _ _ c.payload_length-length.ensures
     c.read_payload.ensures)
 
 pub returns-in-65 : goal.returns-in-65
@@ -30,11 +31,13 @@ returns-in-83 c =
 
 pub returns-in-72 : goal.returns-in-72
 returns-in-72 c =
-    rw (by-type c.args.d.now 72 c.if-d-eq0.false c.if-d-gt-LONGEST.false c.in-72.is) (bare-as c.args.d.now server_heartbeat _ c.read_bare.ensures)
+    rw (by-type c.args.d.now 72 c.if-d-eq0.false c.if-d-gt-LONGEST.false c.in-72.is)
+    (bare-as c.args.d.now server_heartbeat _ c.read_bare.ensures)
 
 pub returns-in-90 : goal.returns-in-90
 returns-in-90 c =
-    rw (by-type c.args.d.now 90 c.if-d-eq0.false c.if-d-gt-LONGEST.false c.in-90.is) (bare-as c.args.d.now end_of_session _ c.read_bare-in-90.ensures)
+    rw (by-type c.args.d.now 90 c.if-d-eq0.false c.if-d-gt-LONGEST.false c.in-90.is)
+    (bare-as c.args.d.now end_of_session _ c.read_bare-in-90.ensures)
 
 pub returns-in-76 : goal.returns-in-76
 returns-in-76 c = rw (by-type c.args.d.now 76 c.if-d-eq0.false c.if-d-gt-LONGEST.false c.in-76.is) c.read_login.ensures
@@ -46,11 +49,13 @@ returns-in-85 c =
 
 pub returns-in-82 : goal.returns-in-82
 returns-in-82 c =
-    rw (by-type c.args.d.now 82 c.if-d-eq0.false c.if-d-gt-LONGEST.false c.in-82.is) (bare-as c.args.d.now client_heartbeat _ c.read_bare-in-82.ensures)
+    rw (by-type c.args.d.now 82 c.if-d-eq0.false c.if-d-gt-LONGEST.false c.in-82.is)
+    (bare-as c.args.d.now client_heartbeat _ c.read_bare-in-82.ensures)
 
 pub returns-in-79 : goal.returns-in-79
 returns-in-79 c =
-    rw (by-type c.args.d.now 79 c.if-d-eq0.false c.if-d-gt-LONGEST.false c.in-79.is) (bare-as c.args.d.now logout _ c.read_bare-in-79.ensures)
+    rw (by-type c.args.d.now 79 c.if-d-eq0.false c.if-d-gt-LONGEST.false c.in-79.is)
+    (bare-as c.args.d.now logout _ c.read_bare-in-79.ensures)
 
 pub returns-in_default : goal.returns-in_default
 returns-in_default c = rw (by-type c.args.d.now _ c.if-d-eq0.false c.if-d-gt-LONGEST.false refl) (search tests)
