@@ -1,9 +1,11 @@
 // Packets written. A line gives their fields in the order of the wire, each number in eight bytes.
 #![tactic(auto)]
+
 ghost use Rattle.std.specs.Prelude.{◌+◌, ◌≤◌, length};
 
 use book_page::page;
 use memx_tcp::packet::Fields;
+use std::io;
 use wire::fields;
 use wire::kinds::{Password, Sequence, SessionId};
 use wire::output::Written;
@@ -174,13 +176,14 @@ fn packet(letter: u8, d: &[u8], n: usize, out: &mut [u8]) -> Written {
     }
 }
 
-pub fn put(text: &[u8], d: &[u8], n: usize, room: usize) {
+pub fn put(rt: &impl Print, text: &[u8], d: &[u8], n: usize, room: usize) -> io::Result<()> {
     let mut out = [page::UNTOUCHED; page::ROOM];
     if text.len() < 5 {
-        return;
+        return Ok(());
     }
     if room <= page::ROOM {
         let said = packet(text[4], d, n, &mut out[0..room]);
-        page::wrote(b"\n= written, bytes ", said, &out);
+        page::wrote(rt, b"\n= written, bytes ", said, &out)?;
     }
+    Ok(())
 }
