@@ -1,13 +1,13 @@
 // SoupTCP as it comes off the wire: a stream is fed piece by piece, and what it hands out is told.
 #![tactic(auto)]
-use book_lines::{entry, numbers};
+
+use book_lines::{entry, numbers, scan};
 use book_packets::soup_packets;
 use book_page::page;
-use bytes::scan;
 use soup::line;
 use soup::reading::Reading;
 use soup_pieces::{Pieces, Taken};
-use std::num;
+use std::{io, num};
 use wire::kinds::Sequence;
 
 // The room for a stream's buffer: the longest packet, and what is looked at behind it.
@@ -40,22 +40,22 @@ pub fn fresh() -> Stream {
     }
 }
 
-fn tell(stream: Stream) -> Stream {
+fn tell(rt: &impl Print, stream: Stream) -> io::Result<Stream> {
     let pieces = stream.pieces;
-    page::number(b"\n= kept ", pieces.kept as u64);
+    page::number(rt, b"\n= kept ", pieces.kept as u64)?;
     if pieces.dropping {
-        page::words(b", dropping yes");
+        page::words(rt, b", dropping yes")?;
     } else {
-        page::words(b", dropping no");
+        page::words(rt, b", dropping no")?;
     }
-    page::number(b", next ", pieces.next.0);
-    stream
+    page::number(rt, b", next ", pieces.next.0)?;
+    Ok(stream)
 }
 
 // A stream as the line says: its numbers, behind a colon the bytes at the buffer's start, and behind `>` how long the buffer is.
 fn open(text: &[u8], buffer: &mut [u8]) -> Stream {
     let said = entry::before_mark(text);
-    let colon = scan::find(said, 0, said.len(), b':');
+    let colon = scan::find(said, b':');
     let front = &said[0..colon];
     let pieces = Pieces {
         kept: numbers::whole(front, 0) as usize,
@@ -71,20 +71,27 @@ fn open(text: &[u8], buffer: &mut [u8]) -> Stream {
 }
 
 // Of the packets only an `S` has a number.
-fn packet(said: Reading, number: Sequence, bytes: usize, buffer: &[u8]) {
+fn packet(
+    rt: &impl Print,
+    said: Reading,
+    number: Sequence,
+    bytes: usize,
+    buffer: &[u8],
+) -> io::Result<()> {
     if bytes <= buffer.len() {
-        soup_packets::tell(said, &buffer[0..bytes]);
+        soup_packets::tell(rt, said, &buffer[0..bytes])?;
     }
     if number.0 != 0 {
-        page::number(b", number ", number.0);
+        page::number(rt, b", number ", number.0)?;
     }
+    Ok(())
 }
 
 // A refused packet has bytes, and a refused call has none.
-fn unfit(why: u8, bytes: usize, buffer: &[u8]) {
-    page::refused(why);
-    page::number(b", bytes ", bytes as u64);
-    page::written(buffer, bytes);
+fn unfit(rt: &impl Print, why: u8, bytes: usize, buffer: &[u8]) -> io::Result<()> {
+    page::refused(rt, why)?;
+    page::number(rt, b", bytes ", bytes as u64)?;
+    page::written(rt, buffer, bytes)
 }
 
 // The call was the last one for its piece.
@@ -98,13 +105,19 @@ fn last(pieces: Pieces, put: usize) -> Step {
 }
 
 // What one call hands out.
-fn call(piece: &[u8], place: usize, pieces: Pieces, buffer: &mut [u8]) -> Step {
+fn call(
+    rt: &impl Print,
+    piece: &[u8],
+    place: usize,
+    pieces: Pieces,
+    buffer: &mut [u8],
+) -> io::Result<Step> {
     match soup_pieces::take(pieces, buffer, piece, place) {
         Taken::Refused(n) => {
-            page::refused(n);
-            last(pieces, 0)
+            page::refused(rt, n)?;
+            Ok(last(pieces, 0))
         }
-        Taken::UsedUp { after } => last(after, after.kept),
+        Taken::UsedUp { after } => Ok(last(after, after.kept)),
         Taken::Packet {
             packet: said,
             number,
@@ -112,13 +125,13 @@ fn call(piece: &[u8], place: usize, pieces: Pieces, buffer: &mut [u8]) -> Step {
             place,
             after,
         } => {
-            packet(said, number, bytes, buffer);
-            Step {
+            packet(rt, said, number, bytes, buffer)?;
+            Ok(Step {
                 pieces: after,
                 put: bytes,
                 place,
                 more: true,
-            }
+            })
         }
         Taken::Unfit {
             why,
@@ -126,74 +139,86 @@ fn call(piece: &[u8], place: usize, pieces: Pieces, buffer: &mut [u8]) -> Step {
             place,
             after,
         } => {
-            unfit(why, bytes, buffer);
-            Step {
+            unfit(rt, why, bytes, buffer)?;
+            Ok(Step {
                 pieces: after,
                 put: bytes,
                 place,
                 more: true,
-            }
+            })
         }
     }
 }
 
 // Behind what was put at its start a call leaves the buffer as it was.
-fn untouched(before: &[u8], buffer: &[u8], place: usize) {
+fn untouched(rt: &impl Print, before: &[u8], buffer: &[u8], place: usize) -> io::Result<()> {
     let mut at = place;
     while at < buffer.len() {
         if page::is_changed(before, buffer, at) {
-            page::words(b"\n= touched");
-            return;
+            return page::words(rt, b"\n= touched");
         }
         at += 1;
     }
+    Ok(())
 }
 
 // Of the buffer so many bytes are lent; all of it is looked at afterwards.
-fn call_lent(piece: &[u8], place: usize, stream: Stream, buffer: &mut [u8]) -> Step {
+fn call_lent(
+    rt: &impl Print,
+    piece: &[u8],
+    place: usize,
+    stream: Stream,
+    buffer: &mut [u8],
+) -> io::Result<Step> {
     let mut before = [0u8; ROOM];
     let pieces = stream.pieces;
     let size = stream.size;
     if ROOM < buffer.len() {
-        return last(pieces, 0);
+        return Ok(last(pieces, 0));
     }
-    bytes::copy(buffer, &mut before);
+    before[0..buffer.len()].copy_from_slice(buffer);
     if buffer.len() < size {
-        return last(pieces, 0);
+        return Ok(last(pieces, 0));
     }
-    let step = call(piece, place, pieces, &mut buffer[0..size]);
-    untouched(&before, buffer, step.put);
-    step
+    let step = call(rt, piece, place, pieces, &mut buffer[0..size])?;
+    untouched(rt, &before, buffer, step.put)?;
+    Ok(step)
 }
 
 // The stream after a piece from a place on. No piece hands out more often than it has bytes.
-fn feed(piece: &[u8], place: usize, stream: Stream, buffer: &mut [u8]) -> Stream {
+fn feed(
+    rt: &impl Print,
+    piece: &[u8],
+    place: usize,
+    stream: Stream,
+    buffer: &mut [u8],
+) -> io::Result<Stream> {
     let mut after = stream;
     let mut at = place;
     let mut left = num::wrapping_add_usize(piece.len(), 1);
     while 0 < left {
-        let step = call_lent(piece, at, after, buffer);
+        let step = call_lent(rt, piece, at, after, buffer)?;
         let pieces = step.pieces;
         after.pieces = pieces;
         if !step.more {
-            return after;
+            return Ok(after);
         }
         at = step.place;
         left -= 1;
     }
-    after
+    Ok(after)
 }
 
 // The same bytes, each as a piece of its own.
-fn feed_singly(d: &[u8], stream: Stream, buffer: &mut [u8]) -> Stream {
+fn feed_singly(rt: &impl Print, d: &[u8], stream: Stream, buffer: &mut [u8]) -> io::Result<Stream> {
     let mut after = stream;
     let mut at = 0;
     while at < d.len() {
         let next = at + 1;
-        after = feed(&d[at..next], 0, after, buffer);
+        after = feed(rt, &d[at..next], 0, after, buffer)?;
         at = next;
     }
-    after
+    Ok(after)
 }
 
 fn is_singly(text: &[u8]) -> bool {
@@ -204,12 +229,22 @@ fn is_singly(text: &[u8]) -> bool {
 }
 
 // The stream after a line.
-pub fn line(letter: u8, text: &[u8], d: &[u8], stream: Stream, buffer: &mut [u8]) -> Stream {
+pub fn line(
+    rt: &impl Print,
+    letter: u8,
+    text: &[u8],
+    d: &[u8],
+    stream: Stream,
+    buffer: &mut [u8],
+) -> io::Result<Stream> {
     if letter == b's' {
-        return open(text, buffer);
+        return Ok(open(text, buffer));
     }
     if is_singly(text) {
-        return tell(feed_singly(d, stream, buffer));
+        return tell(rt, feed_singly(rt, d, stream, buffer)?);
     }
-    tell(feed(d, entry::behind_mark(text, 0), stream, buffer))
+    tell(
+        rt,
+        feed(rt, d, entry::behind_mark(text, 0), stream, buffer)?,
+    )
 }
