@@ -1,9 +1,8 @@
 // The area that is lent for held messages, and what was changed in it.
-use book_lines::{entry, numbers};
+use book_lines::{entry, numbers, scan};
 use book_page::page;
-use bytes::scan;
 use held::slots;
-use std::num;
+use std::{io, num};
 
 // The room for it: 32 slots, and as much as one more behind them.
 pub const ROOM: usize = 48576;
@@ -15,7 +14,7 @@ pub(crate) fn clear(area: &mut [u8]) {
 
 // Puts the bytes behind the colon where a slot begins.
 pub(crate) fn lay(text: &[u8], area: &mut [u8]) {
-    let colon = scan::find(text, 0, text.len(), b':');
+    let colon = scan::find(text, b':');
     let start = (numbers::whole(text, 0) % 33) as usize * slots::SLOT;
     if start <= area.len() {
         entry::bytes(&text[colon..], &mut area[start..]);
@@ -72,25 +71,33 @@ fn past_changes(before: &[u8], area: &[u8], start: usize) -> usize {
     past
 }
 
-fn changed_slot(slot: u64, start: usize, before: &[u8], area: &[u8]) {
+fn changed_slot(
+    rt: &impl Print,
+    slot: u64,
+    start: usize,
+    before: &[u8],
+    area: &[u8],
+) -> io::Result<()> {
     let first = first_change(before, area, start);
     let past = past_changes(before, area, start);
     if first < past {
         if past <= area.len() {
-            page::number(b"\n= slot ", slot);
-            page::number(b" at ", num::wrapping_sub_usize(first, start) as u64);
-            page::raw(b":", &area[first..past]);
+            page::number(rt, b"\n= slot ", slot)?;
+            page::number(rt, b" at ", num::wrapping_sub_usize(first, start) as u64)?;
+            page::raw(rt, b":", &area[first..past])?;
         }
     }
+    Ok(())
 }
 
 // The bytes that were changed in each slot, from the first of them to the last. Slot 32 is what lies behind the 32.
-pub(crate) fn changes(before: &[u8], area: &[u8]) {
+pub(crate) fn changes(rt: &impl Print, before: &[u8], area: &[u8]) -> io::Result<()> {
     let mut slot: u64 = 0;
     let mut start: usize = 0;
     while slot < 33 {
-        changed_slot(slot, start, before, area);
+        changed_slot(rt, slot, start, before, area)?;
         slot += 1;
         start = num::wrapping_add_usize(start, slots::SLOT);
     }
+    Ok(())
 }

@@ -1,4 +1,5 @@
 // The specimen book's records, and the area that is lent to them.
 #![tactic(auto)]
+
 pub mod area;
 pub mod tape;
