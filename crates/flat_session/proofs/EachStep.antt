@@ -124,4 +124,5 @@ on r act a = record {
 pub steps-left : {s t : State} → Run s t → Reached t → (h : Held) → Holds h t → (n : ℕ) (left : Held → Type 0)
     → ((g : Held) (u : State) → Run s u → Reached u → Holds g u → left g) → LeavesSteps n h left
 steps-left {s} {t} run r h i zero left k = k h t run r i
-steps-left run r h i (suc n) left k = λ act. step_left r h i act _ (λ g a j. steps-left (then run act a) (on r act a) g j n left k)
+steps-left {s = s} {t = t} run r h i (suc n) left k =
+    λ act. step_left r h i act _ (λ g a j. steps-left {s = s} {t = step t act} (then run act a) (on r act a) g j n left k)

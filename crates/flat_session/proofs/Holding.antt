@@ -7,6 +7,7 @@ use mathlib.Core.Bool.{true}
 use borrow.Author.Tests.{eqb-true}
 use Rattle.wire.specs.Checks.{taken, ◌else◌}
 use Rattle.wire.proofs.Checks.{all-passed, taken-same}
+use Rattle.lent_log.specs.Log.{messages_in}
 use Rattle.lent_log.specs.declared.Log.{Log}
 use Rattle.record.specs.declared.Record.{Record}
 use Rattle.session.specs.Session.{State, logged}
@@ -31,7 +32,7 @@ module _ (h : Held) (s : State) (i : Holds h s) where
   ended_so e = eqb-true h.log.ended 1 (ap (λ (l : Log). l.ended) log_is ∙ e)
 
   pub messages-are : messages h ≡ logged s
-  messages-are = rw (log_is, i.lent)
+  messages-are = ap (λ (l : Log). messages_in l h.lent) log_is ∙ ap (messages_in s.log) i.lent
 
   pub holds_same : (n : ℕ) → holds h n ≡ session.holds s n
   holds_same n = rw (next-is, ap (λ (r : Record). r.held) record_is)
