@@ -1,6 +1,8 @@
 -- One digit further in a text: what stands in front and what is still to come spell the same as before.
 -- Assumes nothing.
-use Rattle.std.proofs.Common.{◌≡◌, ℕ, ◌+◌, ◌*◌, ◌<◌, ◌≤◌, List, ◌++◌, length, get_or, take, drop, set, refl, ◌∙◌, append_assoc, append-nil, add-one, arith, length-set, drop_of_length-le, drop-cons, take-suc-set, eq-eqb, ne_eqb}
+use Rattle.std.proofs.Common.{◌≡◌, ℕ, ◌+◌, ◌*◌, ◌<◌, ◌≤◌, refl, ◌∙◌, add-one, arith, eq-eqb, ne_eqb}
+use Rattle.std.proofs.Common.{List, ◌++◌, length, get_or, take, drop, set, append_assoc, append-nil, length-set, drop_of_length-le}
+use Rattle.std.proofs.Common.{drop-cons, take-suc-set}
 use Rattle.book_lines.specs.Hex.{digit, onto, spelt, Put}
 use Rattle.book_lines.specs.declared.hex.Spelling.{Spelling}
 

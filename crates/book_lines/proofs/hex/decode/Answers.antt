@@ -26,13 +26,15 @@ loop-i-smaller c = omega arith
 
 pub loop-i-preserved : goal.loop-i-preserved
 loop-i-preserved c =
-    let t = c.args.text.now in (
+    let t = c.args.text.now in
+    let l = c.loop-i in
+    let p = c.put-s in
+    let d = c.digit in (
       omega arith,
       omega arith,
-      c.put-s.ensures.waits,
-      c.put-s.ensures.size ∙ c.loop-i.invariant.3,
-      further c.loop-i.s.count c.loop-i.s.high c.digit.result c.loop-i.i t c.loop-i.out c.put-s.new.out c.put-s.result (omega arith) c.digit.ensures.0 c.put-s.ensures
-          c.loop-i.invariant.4,
+      p.ensures.waits,
+      p.ensures.size ∙ l.invariant.3,
+      further l.s.count l.s.high d.result l.i t l.out p.new.out p.result (omega arith) d.ensures.0 p.ensures l.invariant.4,
     )
 
 pub shape_of-out : goal.shape_of-out
@@ -41,7 +43,8 @@ shape_of-out c = c.loop-i.invariant.3
 pub returns : goal.returns
 returns c =
     let a = c.args in
-    let e = no_more c.loop-i.s.high c.loop-i.i a.text.now (take c.loop-i.s.count c.loop-i.out) (omega arith) c.loop-i.invariant.4 in record {
-      counts = (omega arith, sym (length-take-le c.loop-i.s.count c.loop-i.out (omega arith)));
+    let l = c.loop-i in
+    let e = no_more l.s.high l.i a.text.now (take l.s.count l.out) (omega arith) l.invariant.4 in record {
+      counts = (omega arith, sym (length-take-le l.s.count l.out (omega arith)));
       out_after = rw (le-leb (length a.text.now) (length a.out.now) (omega arith)) e;
     }
