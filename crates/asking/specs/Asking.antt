@@ -1,7 +1,7 @@
 -- What to ask now.
 -- Assumes nothing.
-use Rattle.std.specs.Prelude.{ℕ, ◌+◌, ◌-◌, min, [], ◌∷◌, Bool, not, ◌||◌, Float}
-use Rattle.wire.specs.Checks.{if◌then◌else◌, ◌is◌, Verdict, refused, taken, ◌else◌, checked, ◌into◌}
+use Rattle.std.specs.Prelude.{ℕ, ◌+◌, ◌-◌, min, [], ◌∷◌, Bool, not, ◌||◌, Float, if◌then◌else◌}
+use Rattle.wire.specs.Checks.{◌is◌, Verdict, refused, taken, ◌else◌, checked, ◌into◌}
 use Rattle.clock.specs.Patience.{wait_over}
 use Rattle.clock.specs.declared.sheet.Sheet.{Sheet}
 use Rattle.clock.specs.declared.patience.Patience.{Patience}

@@ -1,8 +1,8 @@
 -- What an entry of the specimen book can be, and what it says, by the definitions that the desk's contracts cite.
 -- Assumes nothing.
-use Rattle.std.specs.Prelude.{ℕ, zero, suc, ◌+◌, ◌≤◌, ◌≡◌, List, [], ◌∷◌, true, false, Float, length}
+use Rattle.std.specs.Prelude.{ℕ, zero, suc, ◌+◌, ◌≤◌, ◌≡◌, List, [], ◌∷◌, true, false, Float, length, if◌then◌else◌}
 use Rattle.std.proofs.Math.Option.{some}
-use Rattle.wire.specs.Checks.{if◌then◌else◌, Verdict, taken, ◌into◌}
+use Rattle.wire.specs.Checks.{Verdict, taken, ◌into◌}
 use Rattle.ufo.specs.Down as server
 use Rattle.ufo_up.specs.Up as client
 use Rattle.memx.specs.Packet as broadcast

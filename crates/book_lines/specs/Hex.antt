@@ -1,7 +1,7 @@
 -- Bytes in a text, as hexadecimal digits in capitals.
 -- Assumes nothing.
-use Rattle.std.specs.Prelude.{◌≡◌, ℕ, ◌+◌, ◌-◌, ◌*◌, ◌≤◌, ◌&&◌, List, [], ◌∷◌, ◌++◌, length, take}
-use Rattle.wire.specs.Checks.{if◌then◌else◌, ◌is◌, ◌at_most◌}
+use Rattle.std.specs.Prelude.{◌≡◌, ℕ, ◌+◌, ◌-◌, ◌*◌, ◌≤◌, ◌&&◌, List, [], ◌∷◌, ◌++◌, length, take, if◌then◌else◌}
+use Rattle.wire.specs.Checks.{◌is◌, ◌at_most◌}
 use Rattle.book_lines.specs.declared.hex.Spelling.{Spelling}
 
 -- 0 to 9, A to F; 16 for what is no digit

@@ -1,5 +1,6 @@
 -- Numbers from 0 to b stay there under the clock's arithmetic, since rounding keeps the order.
 -- Assumes nothing.
+use Rattle.std.specs.Prelude.{if◌then◌else◌}
 use mathlib.Core.Path.{◌≡◌, refl, sym, ap, ◌∙◌, subst}
 use mathlib.Core.Logic.{◌⊎◌, inl, inr}
 use Prim.Native.Nat.{ℕ, zero, suc, ◌+◌, ◌-◌, ◌*◌, ◌^◌, ◌≤◌, ◌<◌}
@@ -12,7 +13,6 @@ use lib.Ieee.{Float, nan, inf, fin, binary64, low, emax, up, down, odd, units, r
 use lib.Ieee.Fits.{up_pos, down_pos, and_i, round_is}
 use lib.Ieee.Exact.{HasValue, round_exact}
 use lib.Ieee.Order.{round_mono}
-use Rattle.wire.specs.Checks.{if◌then◌else◌}
 use Rattle.clock.specs.Milliseconds.{whole}
 use Rattle.clock.specs.Sheet.{apart}
 use Rattle.clock.proofs.Upto.{Upto, zero-upto, first-zero, of-between}

@@ -1,5 +1,6 @@
 -- The measured wait of a sound sheet lies between the floor and the ceiling.
 -- Assumes nothing.
+use Rattle.std.specs.Prelude.{if◌then◌else◌}
 use mathlib.Core.Path.{◌≡◌}
 use Prim.Native.Nat.{ℕ, ◌+◌, ◌*◌, ◌≤◌}
 use native.Mathlib.Nat.{lt_irrefl}
@@ -11,7 +12,6 @@ use lib.Ieee.Fits.{and_i, and_l, and_r, eq→eqb}
 use lib.Ieee.Bits.{is_true}
 use lib.Dec.{T, ltb, eqb, not_T, ltb→lt, nltb→le, lit≤}
 use denote.Floats.{passes}
-use Rattle.wire.specs.Checks.{if◌then◌else◌}
 use Rattle.clock.proofs.Upto.{Upto, or_else, zeros, negative-first}
 use Rattle.clock.proofs.Rounding.{mul-upto, add-upto}
 use Rattle.clock.proofs.Sound.{lawful-upto}

@@ -1,10 +1,10 @@
 -- How long to wait under each rule, and whether the wait is over.
 -- Assumes nothing.
-use Rattle.std.specs.Prelude.{List, [], ◌∷◌, Bool, true, false, ◌&&◌, Float}
+use Rattle.std.specs.Prelude.{List, [], ◌∷◌, Bool, true, false, ◌&&◌, Float, if◌then◌else◌}
 use Rattle.std.proofs.Math.Option.{Option, none, some}
 use Rattle.std.specs.Float.{binary64}
 use Rattle.std.specs.Float.Ieee.{add, mul, le, lt}
-use Rattle.wire.specs.Checks.{if◌then◌else◌, Verdict, refused, taken, Check, ◌else◌, checked}
+use Rattle.wire.specs.Checks.{Verdict, refused, taken, Check, ◌else◌, checked}
 use Rattle.clock.specs.Milliseconds.{whole, between}
 use Rattle.clock.specs.Sheet.{sound}
 use Rattle.clock.specs.declared.sheet.Sheet.{Sheet}

@@ -1,9 +1,9 @@
 -- The line sheet, and what a timed answer makes of it.
 -- Assumes nothing.
-use Rattle.std.specs.Prelude.{[], ◌∷◌, Bool, true, ◌&&◌, Float}
+use Rattle.std.specs.Prelude.{[], ◌∷◌, Bool, true, ◌&&◌, Float, if◌then◌else◌}
 use Rattle.std.specs.Float.{binary64}
 use Rattle.std.specs.Float.Ieee.{add, sub, mul, div, neg, lt}
-use Rattle.wire.specs.Checks.{if◌then◌else◌, Verdict, refused, taken, ◌else◌, checked}
+use Rattle.wire.specs.Checks.{Verdict, refused, taken, ◌else◌, checked}
 use Rattle.clock.specs.Milliseconds.{decimal, whole, lawful}
 use Rattle.clock.specs.declared.sheet.Sheet.{Sheet}
 use Rattle.clock.specs.declared.sheet.Timed.{Timed}

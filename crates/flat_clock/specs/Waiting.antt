@@ -1,7 +1,7 @@
 -- Sheets, wait rules, and what the clock answers.
 -- Assumes nothing.
-use Rattle.std.specs.Prelude.{ℕ, [], ◌∷◌, Float}
-use Rattle.wire.specs.Checks.{if◌then◌else◌, ◌is◌, Verdict, taken, ◌else◌, checked, ◌into◌}
+use Rattle.std.specs.Prelude.{ℕ, [], ◌∷◌, Float, if◌then◌else◌}
+use Rattle.wire.specs.Checks.{◌is◌, Verdict, taken, ◌else◌, checked, ◌into◌}
 use Rattle.clock.specs.Answer.{said_of}
 use Rattle.clock.specs.Milliseconds.{whole}
 use Rattle.clock.specs.Patience.{waiting, wait_of}

@@ -1,12 +1,13 @@
 -- A header's extra bytes, written from flat fields: over 237 of them are 5, after 2 and 3 and before all else; up to 237 refuse nothing.
 -- Assumes nothing.
+use Rattle.std.specs.Prelude.{if◌then◌else◌}
 use Prim.Native.Nat.{ℕ, ◌≤◌, ◌<◌}
 use mathlib.Core.Path.{◌≡◌, ◌∙◌}
 use mathlib.Core.List.{List, [], ◌∷◌, ◌++◌}
 use borrow.Author.Tests.{eqb-true}
 use lib.ListN.{length}
 use Rattle.wire.specs.Fields.{bytes_of}
-use Rattle.wire.specs.Checks.{if◌then◌else◌, ◌is◌, ◌at_most◌, refused, ◌else◌, checked}
+use Rattle.wire.specs.Checks.{◌is◌, ◌at_most◌, refused, ◌else◌, checked}
 use Rattle.wire.specs.Reply.{settle}
 use Rattle.wire.proofs.Tests.{by-test}
 use Rattle.memx.specs.Packet.{limit, headed}

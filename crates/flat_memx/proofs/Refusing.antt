@@ -1,6 +1,7 @@
 -- MEMX-UDP: a type that is none is 3, and a body behind a header alone 4, or 5 where the header is too long; where the whole is over the
 -- limit, each is 2.
 -- Assumes nothing.
+use Rattle.std.specs.Prelude.{if◌then◌else◌}
 use Prim.Native.Nat.{ℕ, ◌+◌, ◌^◌, ◌≤◌, ◌<◌}
 use mathlib.Core.Path.{◌≡◌, refl, sym}
 use mathlib.Core.Bool.{Bool, true, false}
@@ -9,7 +10,7 @@ use native.Mathlib.Omega.{arith}
 use borrow.Author.Tests.{le-leb, lt-leb, ne_eqb}
 use lib.Dec.{leb}
 use lib.ListN.{length}
-use Rattle.wire.specs.Checks.{if◌then◌else◌, ◌at_most◌, refused}
+use Rattle.wire.specs.Checks.{◌at_most◌, refused}
 use Rattle.wire.specs.Reply.{settle}
 use Rattle.wire.proofs.Tests.{leb-same}
 use Rattle.memx.specs.Packet as memx

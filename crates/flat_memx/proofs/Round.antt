@@ -1,5 +1,6 @@
 -- MEMX-UDP's round: what was read is written with the same bytes, and what was written is read with the same fields.
 -- Assumes nothing.
+use Rattle.std.specs.Prelude.{if◌then◌else◌}
 use Prim.Native.Nat.{ℕ, ◌+◌, ◌-◌, ◌≤◌}
 use mathlib.Core.Path.{◌≡◌, refl, ◌∙◌}
 use mathlib.Core.Bool.{false}
@@ -8,7 +9,7 @@ use native.Mathlib.Omega.{arith}
 use borrow.Author.Tests.{leb-true, eqb-true, eqb-false}
 use lib.ListN.{length, get_or, take, drop}
 use Rattle.wire.specs.Fields.{Bytes}
-use Rattle.wire.specs.Checks.{if◌then◌else◌, ◌is◌, Verdict, refused, taken}
+use Rattle.wire.specs.Checks.{◌is◌, Verdict, refused, taken}
 use Rattle.wire.specs.Reply.{within, settle}
 use Rattle.wire.proofs.Checks.{chosen, not-both}
 use Rattle.wire.proofs.Settling.{within-taken}

@@ -1,7 +1,7 @@
 -- What is written of a MEMX-UDP packet's flat fields: the type says which of them are taken, and what the body is.
 -- Assumes nothing.
-use Rattle.std.specs.Prelude.{ℕ, List}
-use Rattle.wire.specs.Checks.{if◌then◌else◌, ◌is◌}
+use Rattle.std.specs.Prelude.{ℕ, List, if◌then◌else◌}
+use Rattle.wire.specs.Checks.{◌is◌}
 use Rattle.wire.specs.Reply.{Reply}
 use Rattle.memx.specs.Packet.{headed, laid}
 use Rattle.memx_write.specs.Writing.{sent}

@@ -1,8 +1,8 @@
 // MEMX-UDP laid flat: a packet read, and one written from its fields.
 #![tactic(auto)]
 
-ghost use Rattle.std.specs.Prelude.{◌≡◌, length};
-ghost use Rattle.wire.specs.Checks.{if◌then◌else◌, ◌at_most◌};
+ghost use Rattle.std.specs.Prelude.{◌≡◌, length, if◌then◌else◌};
+ghost use Rattle.wire.specs.Checks.{◌at_most◌};
 ghost use Rattle.wire.specs.Reply.{Settled};
 ghost use Rattle.flat.specs.Wrote.{FlatSettled};
 ghost use Rattle.flat_memx.specs.Reading.{flat_memx, memx_read};

@@ -1,6 +1,7 @@
 -- What a reader says of a packet whose type it doesn't know, or that goes on after what its type has: the refusals that the face makes by
 -- itself.
 -- Assumes nothing.
+use Rattle.std.specs.Prelude.{if◌then◌else◌}
 use Prim.Native.Nat.{ℕ, ◌+◌, ◌<◌}
 use mathlib.Core.Path.{◌≡◌, refl}
 use mathlib.Core.Bool.{Bool, true, false, not}
@@ -9,7 +10,7 @@ use native.Mathlib.Omega.{arith}
 use borrow.Author.Tests.{ne_eqb}
 use lib.Dec.{leb}
 use lib.ListN.{length}
-use Rattle.wire.specs.Checks.{if◌then◌else◌, ◌is◌, ◌at_most◌, Verdict, refused}
+use Rattle.wire.specs.Checks.{◌is◌, ◌at_most◌, Verdict, refused}
 use Rattle.wire.specs.Reply.{Reply, settle}
 use Rattle.flat_packet.specs.Fitting.{unfit, alone}
 

@@ -1,6 +1,7 @@
 -- What a round through the flat fields asks of any protocol: nothing is refused under 0, what was read is lawful, and what was written is
 -- what its reader takes.
 -- Assumes nothing.
+use Rattle.std.specs.Prelude.{if◌then◌else◌}
 use Prim.Native.Nat.{ℕ, ◌+◌, ◌-◌, ◌^◌, ◌<◌}
 use mathlib.Core.Path.{◌≡◌, refl, sym, ap, ◌∙◌}
 use mathlib.Core.Bool.{true}
@@ -11,7 +12,7 @@ use borrow.Author.Tests.{ne_eqb, eqb-true}
 use lib.ListN.{length, get_or, take, drop}
 use lib.Seq.{take_all, take-length}
 use Rattle.wire.specs.Fields.{Bytes}
-use Rattle.wire.specs.Checks.{if◌then◌else◌, ◌is◌, ◌at_most◌, Check, checked, Passed, Verdict, refused, taken}
+use Rattle.wire.specs.Checks.{◌is◌, ◌at_most◌, Check, checked, Passed, Verdict, refused, taken}
 use Rattle.wire.specs.Reply.{Reply, within, settle}
 use Rattle.wire.proofs.Checks.{chosen, not-both, all-passed, passed-all}
 use Rattle.wire.proofs.Settling.{within-taken, settle-checked}

@@ -1,11 +1,12 @@
 -- The refusal of a body that doesn't belong settles the reply, and leaves the output.
 -- Assumes nothing.
+use Rattle.std.specs.Prelude.{if◌then◌else◌}
 use Prim.Native.Nat.{ℕ}
 use mathlib.Core.Path.{◌≡◌, refl}
 use mathlib.Core.Bool.{Bool, true, false}
 use mathlib.Core.List.{List}
 use lib.Dec.{leb}
-use Rattle.wire.specs.Checks.{if◌then◌else◌, refused}
+use Rattle.wire.specs.Checks.{refused}
 use Rattle.wire.specs.Reply.{Reply, answer_of, left_of, Settled}
 use Rattle.wire.specs.declared.output.Written.{Written}
 use Rattle.flat_packet.specs.Fitting.{unfit}

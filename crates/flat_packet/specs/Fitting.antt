@@ -1,7 +1,7 @@
 -- A packet and a body that don't go together.
 -- Assumes nothing.
-use Rattle.std.specs.Prelude.{ℕ, ◌+◌, List, length}
-use Rattle.wire.specs.Checks.{if◌then◌else◌, ◌is◌, ◌at_most◌, refused}
+use Rattle.std.specs.Prelude.{ℕ, ◌+◌, List, length, if◌then◌else◌}
+use Rattle.wire.specs.Checks.{◌is◌, ◌at_most◌, refused}
 use Rattle.wire.specs.Reply.{Reply}
 
 -- a packet of `size` bytes that can't be: it is over the limit, or refused under a number

@@ -1,7 +1,7 @@
 -- Session records: what is taken, and how they stand.
 -- Assumes nothing.
-use Rattle.std.specs.Prelude.{ℕ, ◌≡◌, Bool, ◌&&◌, ◌||◌, List, [], ◌∷◌}
-use Rattle.wire.specs.Checks.{if◌then◌else◌, ◌is◌, Verdict, taken, ◌else◌, checked, ◌into◌}
+use Rattle.std.specs.Prelude.{ℕ, ◌≡◌, Bool, ◌&&◌, ◌||◌, List, [], ◌∷◌, if◌then◌else◌}
+use Rattle.wire.specs.Checks.{◌is◌, Verdict, taken, ◌else◌, checked, ◌into◌}
 use Rattle.names.specs.Names.{name_of}
 use Rattle.wire.specs.Reply.{left_of}
 use Rattle.record.specs.Standing.{standing, standing_of, range_at, range_of}

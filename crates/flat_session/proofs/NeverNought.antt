@@ -1,5 +1,6 @@
 -- What is refused is refused under a number, never 0, so that a caller tells by that number whether it was refused.
 -- Assumes nothing.
+use Rattle.std.specs.Prelude.{if◌then◌else◌}
 use Prim.Native.Nat.{ℕ, ◌<◌, ◌^◌}
 use mathlib.Core.Path.{◌≡◌, refl}
 use mathlib.Core.List.{List, [], ◌∷◌}
@@ -7,7 +8,7 @@ use mathlib.Core.Bool.{Bool, false, not}
 use borrow.Author.Tests.{eqb-false}
 use lib.ListN.{length, take, drop, length-append}
 use lib.Seq.{take-append_seam}
-use Rattle.wire.specs.Checks.{if◌then◌else◌, ◌is◌, ◌at_most◌, Verdict, refused, taken, ◌else◌, ◌into◌}
+use Rattle.wire.specs.Checks.{◌is◌, ◌at_most◌, Verdict, refused, taken, ◌else◌, ◌into◌}
 use Rattle.wire.specs.Datagram as datagram
 use Rattle.wire.specs.Reply.{Reply, within}
 use Rattle.wire.specs.declared.kinds.Name.{Name}

@@ -1,9 +1,9 @@
 -- A C program at both ends of the line, over hinurapay.h: what it holds, what its calls leave it with, as it reads their answers, and
 -- which state of `session` that is; Claims shows that whatever it does is what `session` does.
 -- Assumes nothing.
-use Rattle.std.specs.Prelude.{ℕ, zero, suc, ◌^◌, ◌%◌, ◌≡◌, List, [], ◌∷◌, ◌++◌, cond, Float, length, take, drop}
+use Rattle.std.specs.Prelude.{ℕ, zero, suc, ◌^◌, ◌%◌, ◌≡◌, List, [], ◌∷◌, ◌++◌, cond, Float, length, take, drop, if◌then◌else◌}
 use Rattle.wire.specs.Fields.{Bytes}
-use Rattle.wire.specs.Checks.{if◌then◌else◌, ◌is◌, Verdict, refused, taken}
+use Rattle.wire.specs.Checks.{◌is◌, Verdict, refused, taken}
 use Rattle.names.specs.Names.{name_bytes}
 use Rattle.missing.specs.Missing.{◌at◌}
 use Rattle.missing.specs.declared.Range.{Range}

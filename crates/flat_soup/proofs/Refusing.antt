@@ -1,5 +1,6 @@
 -- SoupTCP: what the writer refuses by itself, the reader refuses of that packet.
 -- Assumes nothing.
+use Rattle.std.specs.Prelude.{if◌then◌else◌}
 use Prim.Native.Nat.{ℕ, ◌+◌, ◌<◌}
 use mathlib.Core.Path.{◌≡◌, sym, ap, ◌∙◌}
 use mathlib.Core.Logic.{◌⊎◌, inl, inr}
@@ -7,7 +8,7 @@ use mathlib.Core.List.{List, [], ◌∷◌, ◌++◌}
 use native.Mathlib.Omega.{arith}
 use borrow.Author.Tests.{le-leb}
 use lib.ListN.{length, length-append}
-use Rattle.wire.specs.Checks.{if◌then◌else◌, ◌is◌, ◌at_most◌, Verdict, refused, checked}
+use Rattle.wire.specs.Checks.{◌is◌, ◌at_most◌, Verdict, refused, checked}
 use Rattle.wire.specs.Reply.{Reply, settle}
 use Rattle.decimal.specs.Decimal.{written}
 use Rattle.soup.specs.Packet as soup

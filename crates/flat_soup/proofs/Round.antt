@@ -1,5 +1,6 @@
 -- SoupTCP's round: what was read is written as its spelling, and what was written is read with the same fields.
 -- Assumes nothing.
+use Rattle.std.specs.Prelude.{if◌then◌else◌}
 use Prim.Native.Nat.{ℕ, ◌+◌}
 use mathlib.Core.Path.{◌≡◌, refl, sym, ap, ◌∙◌}
 use mathlib.Core.List.{List, [], ◌∷◌, ◌++◌}
@@ -7,7 +8,7 @@ use mathlib.Core.Bool.{false}
 use lib.ListN.{length, get_or, take}
 use lib.Seq.{take_at}
 use Rattle.wire.specs.Fields.{Bytes}
-use Rattle.wire.specs.Checks.{if◌then◌else◌, ◌is◌, taken, checked}
+use Rattle.wire.specs.Checks.{◌is◌, taken, checked}
 use Rattle.wire.specs.Reply.{within}
 use Rattle.decimal.specs.Decimal.{written}
 use Rattle.decimal.proofs.Written.{read-written, length-written}

@@ -1,7 +1,7 @@
 -- What is written of a SoupTCP packet's flat fields: the type says which of them are taken, and what the body is.
 -- Assumes nothing.
-use Rattle.std.specs.Prelude.{ℕ, ◌+◌, List, length}
-use Rattle.wire.specs.Checks.{if◌then◌else◌, ◌is◌}
+use Rattle.std.specs.Prelude.{ℕ, ◌+◌, List, length, if◌then◌else◌}
+use Rattle.wire.specs.Checks.{◌is◌}
 use Rattle.wire.specs.Reply.{Reply}
 use Rattle.soup.specs.Packet.{debug, accept, reject, sequenced, server_heartbeat, end_of_session, login, unsequenced, client_heartbeat}
 use Rattle.soup.specs.Packet.{logout}

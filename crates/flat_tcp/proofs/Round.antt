@@ -1,5 +1,6 @@
 -- MEMX-TCP's round: what was read is written with the same bytes, and what was written is read with the same fields.
 -- Assumes nothing.
+use Rattle.std.specs.Prelude.{if◌then◌else◌}
 use Prim.Native.Nat.{ℕ}
 use mathlib.Core.Path.{◌≡◌, refl}
 use mathlib.Core.Bool.{true}
@@ -9,7 +10,7 @@ use borrow.Author.Tests.{eqb-true}
 use lib.ListN.{length, get_or, take, drop, drop_of_length-le}
 use lib.Seq.{take-length}
 use Rattle.wire.specs.Fields.{Bytes}
-use Rattle.wire.specs.Checks.{if◌then◌else◌, ◌is◌, Verdict, refused, taken}
+use Rattle.wire.specs.Checks.{◌is◌, Verdict, refused, taken}
 use Rattle.wire.specs.Reply.{within}
 use Rattle.wire.proofs.Checks.{all-passed, taken-same}
 use Rattle.wire.proofs.Numbered.{never-taken}

@@ -1,5 +1,6 @@
 -- UFO, server to client, and its round: what was read is written with the same bytes, and what was written is read with the same fields.
 -- Assumes nothing.
+use Rattle.std.specs.Prelude.{if◌then◌else◌}
 use Prim.Native.Nat.{ℕ, ◌+◌, ◌-◌, ◌^◌}
 use mathlib.Core.Path.{◌≡◌, refl, sym, ◌∙◌}
 use mathlib.Core.List.{List}
@@ -7,7 +8,7 @@ use native.Mathlib.Omega.{arith}
 use borrow.Author.Tests.{leb-true}
 use lib.ListN.{length, get_or, take, drop}
 use Rattle.wire.specs.Fields.{bytes_of, Bytes}
-use Rattle.wire.specs.Checks.{if◌then◌else◌, ◌is◌, refused, taken, Check, checked, Passed}
+use Rattle.wire.specs.Checks.{◌is◌, refused, taken, Check, checked, Passed}
 use Rattle.wire.specs.Datagram.{opening}
 use Rattle.wire.specs.Reply.{Reply, within}
 use Rattle.wire.proofs.Numbered.{never-checked, never-taken, never-under, never-either}

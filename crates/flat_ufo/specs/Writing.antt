@@ -1,7 +1,7 @@
 -- What is written of the flat fields of a UFO packet of the server: the type says which of them are taken, and what the body is.
 -- Assumes nothing.
-use Rattle.std.specs.Prelude.{ℕ, ◌+◌, List, length}
-use Rattle.wire.specs.Checks.{if◌then◌else◌, ◌is◌}
+use Rattle.std.specs.Prelude.{ℕ, ◌+◌, List, length, if◌then◌else◌}
+use Rattle.wire.specs.Checks.{◌is◌}
 use Rattle.wire.specs.Datagram.{limit}
 use Rattle.wire.specs.Reply.{Reply}
 use Rattle.ufo_write.specs.WriteDown.{accept_reply, reject_reply, messages_reply, end_reply}

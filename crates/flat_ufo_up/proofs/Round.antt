@@ -1,6 +1,7 @@
 -- UFO, client to server, and its round: a message that was read is written as the same block, and one that was written is read with the
 -- same fields.
 -- Assumes nothing.
+use Rattle.std.specs.Prelude.{if◌then◌else◌}
 use Prim.Native.Nat.{ℕ, ◌+◌, ◌-◌}
 use mathlib.Core.Path.{◌≡◌, refl, ap, sym, ◌∙◌}
 use mathlib.Core.List.{List, [], ◌∷◌, ◌++◌}
@@ -9,7 +10,7 @@ use borrow.Author.Tests.{eqb-true, leb-true, not-true}
 use lib.ListN.{length, get_or, take, drop, length-append}
 use lib.Seq.{take_at, drop_at, drop-drop, get_or-drop}
 use Rattle.wire.specs.Fields.{bytes_of, Bytes}
-use Rattle.wire.specs.Checks.{if◌then◌else◌, ◌is◌, ◌at_most◌, ◌else◌, Check, checked, Passed, Verdict, refused, taken, ◌into◌}
+use Rattle.wire.specs.Checks.{◌is◌, ◌at_most◌, ◌else◌, Check, checked, Passed, Verdict, refused, taken, ◌into◌}
 use Rattle.wire.specs.Datagram.{opening}
 use Rattle.wire.specs.Reply.{within}
 use Rattle.text.specs.Text.{blank}

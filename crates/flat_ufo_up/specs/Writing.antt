@@ -1,7 +1,7 @@
 -- What is written of the flat fields of a UFO message of the client: the type says which of them are taken, and what the body is.
 -- Assumes nothing.
-use Rattle.std.specs.Prelude.{ℕ, ◌+◌, List, length}
-use Rattle.wire.specs.Checks.{if◌then◌else◌, ◌is◌}
+use Rattle.std.specs.Prelude.{ℕ, ◌+◌, List, length, if◌then◌else◌}
+use Rattle.wire.specs.Checks.{◌is◌}
 use Rattle.wire.specs.Datagram.{limit}
 use Rattle.wire.specs.Reply.{Reply}
 use Rattle.ufo_up.specs.Up as up

@@ -1,8 +1,8 @@
 -- Holding messages that came early.
 -- Assumes nothing.
-use Rattle.std.specs.Prelude.{ℕ, suc, ◌+◌, ◌*◌, ◌≡◌, List, [], ◌∷◌, Bool, not, ◌&&◌, length}
+use Rattle.std.specs.Prelude.{ℕ, suc, ◌+◌, ◌*◌, ◌≡◌, List, [], ◌∷◌, Bool, not, ◌&&◌, length, if◌then◌else◌}
 use Rattle.std.proofs.lemmas.List.Edits.{sets}
-use Rattle.wire.specs.Checks.{if◌then◌else◌, ◌at_most◌}
+use Rattle.wire.specs.Checks.{◌at_most◌}
 use Rattle.blocks.specs.Blocks.{frame}
 use Rattle.held.specs.Slots.{area_size, longest, slot_of, full, filled}
 

@@ -1,8 +1,8 @@
 -- Releasing held messages: one goes out as soon as it is next.
 -- Assumes nothing.
-use Rattle.std.specs.Prelude.{ℕ, zero, suc, ◌+◌, ◌≤◌, ◌<◌, ◌≡◌, List, [], ◌∷◌, length}
+use Rattle.std.specs.Prelude.{ℕ, zero, suc, ◌+◌, ◌≤◌, ◌<◌, ◌≡◌, List, [], ◌∷◌, length, if◌then◌else◌}
 use Rattle.std.proofs.lemmas.List.Edits.{sets}
-use Rattle.wire.specs.Checks.{if◌then◌else◌, ◌at_most◌, Verdict, refused, taken, ◌else◌, checked}
+use Rattle.wire.specs.Checks.{◌at_most◌, Verdict, refused, taken, ◌else◌, checked}
 use Rattle.blocks.specs.Blocks.{frames, stated}
 use Rattle.held.specs.Slots.{area_size, longest, slot_of, full, slot_at, held_message}
 use Rattle.held.specs.Hanging.{sound}

@@ -1,7 +1,7 @@
 -- The held area: 32 slots of 1,472 bytes for messages that came early, and a bitmap that says which of them are full.
 -- Assumes nothing.
-use Rattle.std.specs.Prelude.{ℕ, zero, suc, ◌+◌, ◌-◌, ◌*◌, ◌/◌, ◌%◌, ◌^◌, List, Bool, drop}
-use Rattle.wire.specs.Checks.{if◌then◌else◌, ◌is◌}
+use Rattle.std.specs.Prelude.{ℕ, zero, suc, ◌+◌, ◌-◌, ◌*◌, ◌/◌, ◌%◌, ◌^◌, List, Bool, drop, if◌then◌else◌}
+use Rattle.wire.specs.Checks.{◌is◌}
 use Rattle.blocks.specs.Blocks.{first}
 
 --            0        1,472    2,944            1,472 i                   45,632    47,104

@@ -1,5 +1,6 @@
 -- One block further in a pass over blocks: over exactly n of them, and over all that there are.
 -- Assumes nothing.
+use Rattle.std.specs.Prelude.{if◌then◌else◌}
 use Prim.Native.Nat.{ℕ, suc, ◌+◌, ◌-◌, ◌≤◌, ◌<◌}
 use mathlib.Core.List.{List, [], ◌∷◌}
 use mathlib.Core.Path.{◌≡◌, refl, ap, sym, ◌∙◌}
@@ -9,7 +10,7 @@ use native.Mathlib.Omega.{arith}
 use borrow.Author.Tests.{le-leb, lt-leb, eq-eqb, ne_eqb}
 use lib.ListN.{length, drop, length-drop}
 use lib.Dec.{leb, eqb}
-use Rattle.wire.specs.Checks.{if◌then◌else◌, ◌at_most◌}
+use Rattle.wire.specs.Checks.{◌at_most◌}
 use Rattle.wire.proofs.Tests.{by-test}
 use Rattle.blocks.specs.Blocks.{stated, first, Cut, torn, whole, before, cut, is_whole, end_at, block_at}
 use Rattle.blocks.specs.declared.Block.TheVariants as block

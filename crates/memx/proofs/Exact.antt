@@ -1,5 +1,6 @@
 -- Exactly the lawful packets are taken: reading what was written gives the packet, and writing what was read the bytes.
 -- Assumes nothing.
+use Rattle.std.specs.Prelude.{if◌then◌else◌}
 use Prim.Native.Nat.{ℕ, zero, suc, ◌+◌, ◌-◌, ◌≤◌}
 use mathlib.Core.Path.{◌≡◌, refl, ◌∙◌}
 use mathlib.Core.List.{List, []}
@@ -8,7 +9,7 @@ use native.Mathlib.Omega.{arith}
 use borrow.Author.Tests.{le-leb, ne_eqb, leb-true, eqb-true}
 use lib.ListN.{length, drop, drop_of_length-le}
 use Rattle.wire.specs.Fields.{Bytes}
-use Rattle.wire.specs.Checks.{if◌then◌else◌, ◌is◌, taken, Passed}
+use Rattle.wire.specs.Checks.{◌is◌, taken, Passed}
 use Rattle.wire.proofs.Tests.{nonzero}
 use Rattle.wire.proofs.Width.{be-lt, bytes_drop, bytes_take, written-again}
 use Rattle.blocks.specs.Blocks.{frames, messages_of}

@@ -1,5 +1,6 @@
 -- What the reader says to a packet as it is laid out, by its fields.
 -- Assumes nothing.
+use Rattle.std.specs.Prelude.{if◌then◌else◌}
 use Prim.Native.Nat.{ℕ, ◌+◌, ◌-◌, ◌^◌, ◌<◌}
 use mathlib.Core.Path.{◌≡◌, sym, ◌∙◌}
 use mathlib.Core.List.{List, [], ◌∷◌, ◌++◌}
@@ -8,7 +9,7 @@ use native.Mathlib.Omega.{arith}
 use borrow.Author.Tests.{le-leb, eq-eqb, ne_eqb, eqb-true, eqb-false}
 use lib.ListN.{length, length-append}
 use Rattle.wire.specs.Fields.{bytes_of}
-use Rattle.wire.specs.Checks.{if◌then◌else◌, ◌is◌, ◌at_most◌, taken, Check, ◌else◌, checked}
+use Rattle.wire.specs.Checks.{◌is◌, ◌at_most◌, taken, Check, ◌else◌, checked}
 use Rattle.wire.proofs.Tests.{by-test}
 use Rattle.wire.proofs.Width.{length-bytes_of}
 use Rattle.blocks.specs.Blocks.{cut, is_whole, messages_of}

@@ -1,8 +1,8 @@
 -- What the desk says to a MEMX-UDP packet: a list of checks that all types share, then one for each.
 -- Assumes nothing.
-use Rattle.std.specs.Prelude.{ℕ, ◌+◌, ◌-◌, ◌^◌, List, [], ◌∷◌, not, length, get_or, take, drop}
+use Rattle.std.specs.Prelude.{ℕ, ◌+◌, ◌-◌, ◌^◌, List, [], ◌∷◌, not, length, get_or, take, drop, if◌then◌else◌}
 use Rattle.wire.specs.Fields.{be}
-use Rattle.wire.specs.Checks.{if◌then◌else◌, ◌is◌, ◌at_most◌, Verdict, taken, Check, ◌else◌, checked}
+use Rattle.wire.specs.Checks.{◌is◌, ◌at_most◌, Verdict, taken, Check, ◌else◌, checked}
 use Rattle.blocks.specs.Blocks.{Cut, cut, is_whole, messages_of}
 use Rattle.memx.specs.Packet.{Packet, heartbeat, shutdown, messages, limit, header_size}
 

@@ -1,5 +1,6 @@
 -- The letters that the paper's tables list are taken in their types, every other letter is refused 5, and no other type has a letter.
 -- Assumes nothing.
+use Rattle.std.specs.Prelude.{if◌then◌else◌}
 use Prim.Native.Nat.{ℕ, ◌+◌, ◌*◌, ◌/◌, ◌%◌, ◌<◌}
 use mathlib.Core.Path.{◌≡◌, refl, sym}
 use mathlib.Core.Logic.{inl, inr}
@@ -10,7 +11,7 @@ use borrow.Author.Tests.{eq-eqb}
 use types.Run.{OneOf}
 use lib.ListN.{get_or, drop}
 use Rattle.wire.specs.Fields.{be, bytes_of}
-use Rattle.wire.specs.Checks.{if◌then◌else◌, ◌is◌, refused, taken, Check, checked}
+use Rattle.wire.specs.Checks.{◌is◌, refused, taken, Check, checked}
 use Rattle.wire.proofs.Tests.{by-test, and_left, and_right, impossible}
 use Rattle.memx_tcp.specs.Layout.{Row, ◌is_one_of◌, lettered, known, fields_of, most_of, size}
 use Rattle.memx_tcp.specs.Packet.{header_size, laid, write, each}

@@ -1,7 +1,7 @@
 -- MEMX-TCP's messages as the paper's tables have them: the fields of each type, in their order.
 -- Assumes nothing.
-use Rattle.std.specs.Prelude.{ℕ, ◌+◌, List, [], ◌∷◌, Bool, true, false, not, ◌||◌}
-use Rattle.wire.specs.Checks.{if◌then◌else◌, ◌is◌}
+use Rattle.std.specs.Prelude.{ℕ, ◌+◌, List, [], ◌∷◌, Bool, true, false, not, ◌||◌, if◌then◌else◌}
+use Rattle.wire.specs.Checks.{◌is◌}
 
 infix 20 ◌has◌then_up_to◌
 infix 40 ◌is_one_of◌

@@ -1,7 +1,7 @@
 -- What the code answers: a packet's fields by name, and where its token or payload stands.
 -- Assumes nothing.
-use Rattle.std.specs.Prelude.{ℕ, ◌+◌, List, [], ◌∷◌, length}
-use Rattle.wire.specs.Checks.{if◌then◌else◌, ◌is◌, Verdict, refused, taken}
+use Rattle.std.specs.Prelude.{ℕ, ◌+◌, List, [], ◌∷◌, length, if◌then◌else◌}
+use Rattle.wire.specs.Checks.{◌is◌, Verdict, refused, taken}
 use Rattle.memx_tcp.specs.Layout.{Field, letter, count, session, next, number, top, fields_of, most_of, size}
 use Rattle.memx_tcp.specs.Packet.{Packet, header_size}
 use Rattle.memx_tcp.specs.declared.packet.Fields.{Fields}

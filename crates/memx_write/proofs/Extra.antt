@@ -1,6 +1,7 @@
 -- A header's extra bytes, in writing: over 237 of them are 5, in every type and whatever else is wrong, but for 2 and 3; up to 237 they
 -- refuse nothing, for the number is then that of the packet without them.
 -- Assumes nothing.
+use Rattle.std.specs.Prelude.{if◌then◌else◌}
 use Prim.Native.Nat.{ℕ, ◌+◌, ◌≤◌, ◌<◌}
 use mathlib.Core.Path.{◌≡◌, refl, ap, sym, ◌∙◌}
 use mathlib.Core.List.{List, [], ◌∷◌}
@@ -8,7 +9,7 @@ use native.Mathlib.Omega.{arith}
 use borrow.Author.Tests.{le-leb, lt-leb}
 use lib.ListN.{length}
 use Rattle.wire.specs.Fields.{be, bytes_of}
-use Rattle.wire.specs.Checks.{if◌then◌else◌, ◌is◌, ◌at_most◌, refused, taken, Check, ◌else◌, checked}
+use Rattle.wire.specs.Checks.{◌is◌, ◌at_most◌, refused, taken, Check, ◌else◌, checked}
 use Rattle.wire.specs.Reply.{within, settle}
 use Rattle.wire.proofs.Settling.{settle-checked}
 use Rattle.wire.proofs.Tests.{by-test, leb-same}

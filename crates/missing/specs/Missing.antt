@@ -1,7 +1,7 @@
 -- What is missing: the ranges of the numbers from N to T that are not held.
 -- Assumes nothing.
-use Rattle.std.specs.Prelude.{ℕ, zero, suc, ◌+◌, ◌-◌, List, [], ◌∷◌, Bool, ◌&&◌, get_or}
-use Rattle.wire.specs.Checks.{if◌then◌else◌, ◌is◌, ◌at_most◌}
+use Rattle.std.specs.Prelude.{ℕ, zero, suc, ◌+◌, ◌-◌, List, [], ◌∷◌, Bool, ◌&&◌, get_or, if◌then◌else◌}
+use Rattle.wire.specs.Checks.{◌is◌, ◌at_most◌}
 use Rattle.held.specs.Slots.{full}
 use Rattle.missing.specs.declared.Range.{Range}
 

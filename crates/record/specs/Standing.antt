@@ -1,7 +1,7 @@
 -- How a record stands.
 -- Assumes nothing.
-use Rattle.std.specs.Prelude.{ℕ, ◌+◌, List, [], ◌∷◌, Bool, ◌&&◌, length}
-use Rattle.wire.specs.Checks.{if◌then◌else◌, ◌is◌, ◌at_most◌, Verdict, refused, taken, ◌else◌, checked}
+use Rattle.std.specs.Prelude.{ℕ, ◌+◌, List, [], ◌∷◌, Bool, ◌&&◌, length, if◌then◌else◌}
+use Rattle.wire.specs.Checks.{◌is◌, ◌at_most◌, Verdict, refused, taken, ◌else◌, checked}
 use Rattle.missing.specs.Missing.{◌at◌}
 use Rattle.missing.specs.Missing as ranges
 use Rattle.missing.specs.declared.Range.{Range}

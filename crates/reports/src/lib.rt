@@ -1,8 +1,8 @@
 // Reports: what a datagram reports to a record of a session, in either style.
 #![tactic(auto)]
 
-ghost use Rattle.std.specs.Prelude.{◌≡◌};
-ghost use Rattle.wire.specs.Checks.{if◌then◌else◌, ◌is◌, ◌into◌};
+ghost use Rattle.std.specs.Prelude.{◌≡◌, if◌then◌else◌};
+ghost use Rattle.wire.specs.Checks.{◌is◌, ◌into◌};
 ghost use Rattle.ufo.specs.Down as ufo;
 ghost use Rattle.memx.specs.Read as memx_read;
 ghost use Rattle.reports.specs.Reports.{of_ufo, of_memx, report_of, blocks_at, reported_of};

@@ -1,5 +1,6 @@
 -- The log vouches for whatever the lending end sends; and the answer to a request for what the log has brings the first of it.
 -- Assumes nothing.
+use Rattle.std.specs.Prelude.{if◌then◌else◌}
 use Prim.Native.Nat.{ℕ, ◌+◌, ◌-◌, ◌≤◌}
 use mathlib.Core.Path.{◌≡◌, refl}
 use mathlib.Core.List.{List, []}
@@ -8,7 +9,7 @@ use native.Mathlib.Omega.{arith}
 use borrow.Author.Tests.{leb-true, leb-false}
 use lib.ListN.{length, take, drop}
 use lib.Dec.{leb}
-use Rattle.wire.specs.Checks.{if◌then◌else◌, taken}
+use Rattle.wire.specs.Checks.{taken}
 use Rattle.ufo.specs.Down as ufo
 use Rattle.lent_log.specs.Log.{small}
 use Rattle.lend.specs.Answer.{greatest, from, goes, packed, heartbeat_of, end_of, answer_to}

@@ -1,11 +1,12 @@
 -- Any bytes are read by one list of checks, and these stand in the readers' order: 1, 2, 3, 4, 8, 5, 6, 7.
 -- Assumes nothing.
+use Rattle.std.specs.Prelude.{if◌then◌else◌}
 use Prim.Native.Nat.{ℕ}
 use mathlib.Core.Path.{◌≡◌, refl, sym, ap, ◌∙◌}
 use mathlib.Core.List.{List, ◌∷◌, ◌++◌}
 use mathlib.Core.Bool.{Bool, true, ◌||◌}
 use lib.ListN.{get_or}
-use Rattle.wire.specs.Checks.{if◌then◌else◌, ◌is◌, refused, taken, Check, ◌else◌, checked, ordered}
+use Rattle.wire.specs.Checks.{◌is◌, refused, taken, Check, ◌else◌, checked, ordered}
 use Rattle.wire.proofs.Numbered.{numbered, never-taken}
 use Rattle.decimal.specs.Decimal.{value_of}
 use Rattle.soup.specs.Packet.{Packet, debug, accept, reject, sequenced, server_heartbeat, end_of_session, login, unsequenced}

@@ -1,5 +1,6 @@
 -- The readers of `A` and `L`: the texts' padding is checked together, and then all goes by what the number came to.
 -- Assumes nothing.
+use Rattle.std.specs.Prelude.{if◌then◌else◌}
 use Prim.Native.Nat.{ℕ, ◌-◌, ◌^◌}
 use mathlib.Core.Path.{◌≡◌, refl, ◌∙◌}
 use mathlib.Core.List.{List, [], ◌∷◌}
@@ -7,7 +8,7 @@ use mathlib.Core.Bool.{Bool, false, not, ◌&&◌, ◌||◌}
 use native.Mathlib.Omega.{arith}
 use lib.ListN.{length}
 use borrow.Author.Tests.{ne_eqb, leb-false}
-use Rattle.wire.specs.Checks.{if◌then◌else◌, ◌is◌, ◌at_most◌, Verdict, taken, refused, ◌else◌, checked}
+use Rattle.wire.specs.Checks.{◌is◌, ◌at_most◌, Verdict, taken, refused, ◌else◌, checked}
 use Rattle.wire.proofs.Tests.{by-test}
 use Rattle.wire.proofs.Checks.{checked-both, checked-neither}
 use Rattle.text.specs.Text.{blank, text_then_spaces, spaces_then_text}

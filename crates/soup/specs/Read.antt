@@ -1,7 +1,7 @@
 -- What the desk says to a SoupTCP packet: lists of checks, in the order of their numbers.
 -- Assumes nothing.
-use Rattle.std.specs.Prelude.{ℕ, ◌-◌, ◌^◌, List, [], ◌∷◌, Bool, true, not, ◌&&◌, ◌||◌, length, get_or, take, drop}
-use Rattle.wire.specs.Checks.{if◌then◌else◌, ◌is◌, ◌at_most◌, Verdict, refused, taken, Check, ◌else◌, checked}
+use Rattle.std.specs.Prelude.{ℕ, ◌-◌, ◌^◌, List, [], ◌∷◌, Bool, true, not, ◌&&◌, ◌||◌, length, get_or, take, drop, if◌then◌else◌}
+use Rattle.wire.specs.Checks.{◌is◌, ◌at_most◌, Verdict, refused, taken, Check, ◌else◌, checked}
 use Rattle.text.specs.Text.{blank, text_then_spaces, spaces_then_text}
 use Rattle.decimal.specs.Decimal.{well_formed, value_of}
 use Rattle.soup.specs.Packet.{Packet, debug, accept, reject, sequenced, server_heartbeat, end_of_session, login, unsequenced}

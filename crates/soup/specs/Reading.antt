@@ -1,7 +1,7 @@
 -- What the code answers: each case of its enum from the verdict on a packet.
 -- Assumes nothing.
-use Rattle.std.specs.Prelude.{ℕ, List, [], ◌∷◌, length}
-use Rattle.wire.specs.Checks.{if◌then◌else◌, ◌is◌, Verdict, refused, taken, Check}
+use Rattle.std.specs.Prelude.{ℕ, List, [], ◌∷◌, length, if◌then◌else◌}
+use Rattle.wire.specs.Checks.{◌is◌, Verdict, refused, taken, Check}
 use Rattle.names.specs.Names.{name_of, user_of}
 use Rattle.soup.specs.Packet.{Packet, debug, accept, reject, sequenced, server_heartbeat, end_of_session, login, unsequenced}
 use Rattle.soup.specs.Packet.{client_heartbeat, logout}

@@ -1,7 +1,7 @@
 -- The one spelling of a packet: its number as we write it, and all else as it came.
 -- Assumes nothing.
-use Rattle.std.specs.Prelude.{ℕ, ◌+◌, List, ◌++◌, Bool, false, get_or, take, drop}
-use Rattle.wire.specs.Checks.{if◌then◌else◌, ◌is◌}
+use Rattle.std.specs.Prelude.{ℕ, ◌+◌, List, ◌++◌, Bool, false, get_or, take, drop, if◌then◌else◌}
+use Rattle.wire.specs.Checks.{◌is◌}
 use Rattle.decimal.specs.Decimal.{value_of, written, leading_zero}
 use Rattle.soup.specs.Read.{field}
 

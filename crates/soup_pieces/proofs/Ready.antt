@@ -1,5 +1,6 @@
 -- When what is lent is `ready`, test by test as the code makes them; and what that says.
 -- Assumes nothing.
+use Rattle.std.specs.Prelude.{if◌then◌else◌}
 use Prim.Native.Nat.{ℕ, ◌≤◌, ◌<◌}
 use mathlib.Core.Path.{◌≡◌, sym}
 use mathlib.Core.List.{List}
@@ -9,7 +10,7 @@ use lib.Dec.{leb}
 use lib.ListN.{length, take}
 use lib.Seq.{length-take-le}
 use borrow.Author.Tests.{le-leb, lt-leb, eq-eqb, leb-true, eqb-true}
-use Rattle.wire.specs.Checks.{if◌then◌else◌, ◌is◌}
+use Rattle.wire.specs.Checks.{◌is◌}
 use Rattle.wire.proofs.Tests.{by-test, and_left, and_right}
 use Rattle.soup.specs.Read.{unbroken}
 use Rattle.soup_pieces.specs.Eating.{ready}

@@ -1,7 +1,7 @@
 -- What is answered of a line that has ended, step by step as the code has it.
 -- Assumes nothing.
-use Rattle.std.specs.Prelude.{ℕ, ◌-◌, ◌^◌, ◌≤◌, ◌≡◌, List, Bool, true, false, length}
-use Rattle.wire.specs.Checks.{if◌then◌else◌, ◌is◌, Verdict, refused, taken}
+use Rattle.std.specs.Prelude.{ℕ, ◌-◌, ◌^◌, ◌≤◌, ◌≡◌, List, Bool, true, false, length, if◌then◌else◌}
+use Rattle.wire.specs.Checks.{◌is◌, Verdict, refused, taken}
 use Rattle.soup.specs.Packet.{Packet, line_limit}
 use Rattle.soup.specs.Read.{last, front, unbroken}
 use Rattle.soup.specs.Reading.{packet_of}

@@ -1,5 +1,6 @@
 -- What a writer's reply comes to: by the reader's answer, and for a payload by its own checks.
 -- Assumes nothing.
+use Rattle.std.specs.Prelude.{if◌then◌else◌}
 use Prim.Native.Nat.{ℕ, ◌≤◌, ◌<◌}
 use mathlib.Core.Path.{◌≡◌, refl, ap, sym, ◌∙◌}
 use mathlib.Core.Logic.{⊎_elim}
@@ -10,7 +11,7 @@ use denote.Enum.Declared.{tag_of}
 use lib.Dec.{eqb}
 use lib.ListN.{length}
 use borrow.Author.Tests.{ne_eqb, eqb-true, eqb-false}
-use Rattle.wire.specs.Checks.{if◌then◌else◌, Verdict, refused, taken, checked}
+use Rattle.wire.specs.Checks.{Verdict, refused, taken, checked}
 use Rattle.wire.specs.Reply.{within, settle}
 use Rattle.soup.specs.Packet.{Packet, debug, accept, reject, sequenced, server_heartbeat, end_of_session, login, unsequenced}
 use Rattle.soup.specs.Packet.{client_heartbeat}

@@ -1,6 +1,7 @@
 -- Handing over the blocks from N on, and what is held behind them: what is delivered of a datagram is what its messages say. Once a packet
 -- doesn't contradict the record only room is left to ask for, so the answer to the packet is read off the answer to the handing over.
 -- Assumes nothing.
+use Rattle.std.specs.Prelude.{if◌then◌else◌}
 use Prim.Native.Nat.{ℕ, ◌+◌, ◌-◌, ◌≤◌, ◌<◌, max}
 use mathlib.Core.List.{List, [], ◌∷◌, ◌++◌, append-nil}
 use mathlib.Core.Path.{◌≡◌, refl, ap, sym, ◌∙◌}
@@ -9,7 +10,7 @@ use native.Mathlib.Nat.{add-zero}
 use native.Mathlib.Omega.{arith}
 use lib.Dec.{leb}
 use lib.ListN.{length, drop, length-drop, length-append}
-use Rattle.wire.specs.Checks.{if◌then◌else◌, ◌at_most◌, ◌else◌, Verdict, refused, taken, checked, ◌into◌}
+use Rattle.wire.specs.Checks.{◌at_most◌, ◌else◌, Verdict, refused, taken, checked, ◌into◌}
 use Rattle.wire.specs.Fields.{Bytes}
 use Rattle.wire.specs.Reply.{within, Settled}
 use Rattle.wire.specs.declared.output.Written.{Written}

@@ -1,7 +1,7 @@
 -- What the record makes of a report, and of a datagram.
 -- Assumes nothing.
-use Rattle.std.specs.Prelude.{ℕ, ◌+◌, ◌-◌, max, ◌≡◌, List, [], ◌∷◌, ◌++◌, Bool, not, ◌&&◌, ◌||◌, length, drop}
-use Rattle.wire.specs.Checks.{if◌then◌else◌, ◌at_most◌, Verdict, refused, taken, Check, ◌else◌, checked, ◌into◌}
+use Rattle.std.specs.Prelude.{ℕ, ◌+◌, ◌-◌, max, ◌≡◌, List, [], ◌∷◌, ◌++◌, Bool, not, ◌&&◌, ◌||◌, length, drop, if◌then◌else◌}
+use Rattle.wire.specs.Checks.{◌at_most◌, Verdict, refused, taken, Check, ◌else◌, checked, ◌into◌}
 use Rattle.wire.specs.Reply.{Reply, left_of}
 use Rattle.blocks.specs.Blocks.{frames}
 use Rattle.held.specs.Slots.{freed_from}

@@ -1,7 +1,7 @@
 -- Text fields: ASCII letters and digits, padded with spaces on one side.
 -- Assumes nothing.
-use Rattle.std.specs.Prelude.{ℕ, List, [], ◌∷◌, Bool, true, ◌&&◌, ◌||◌}
-use Rattle.wire.specs.Checks.{if◌then◌else◌, ◌is◌, ◌at_most◌}
+use Rattle.std.specs.Prelude.{ℕ, List, [], ◌∷◌, Bool, true, ◌&&◌, ◌||◌, if◌then◌else◌}
+use Rattle.wire.specs.Checks.{◌is◌, ◌at_most◌}
 
 -- 0 to 9, A to Z, a to z; Alphabet shows that they are the sixty-two
 unfoldable pub letter_or_digit : ℕ → Bool

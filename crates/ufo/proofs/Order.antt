@@ -1,10 +1,11 @@
 -- What the reader says of any packet is what one list of checks says, and they stand in the readers' order: 1, 2, 3, 4, 8, 5, 6, 7.
 -- Assumes nothing.
+use Rattle.std.specs.Prelude.{if◌then◌else◌}
 use Prim.Native.Nat.{ℕ}
 use mathlib.Core.Path.{◌≡◌}
 use mathlib.Core.List.{List, ◌∷◌, ◌++◌}
 use mathlib.Core.Bool.{Bool, true, ◌||◌}
-use Rattle.wire.specs.Checks.{if◌then◌else◌, ◌is◌, taken, Check, ◌else◌, checked, ordered}
+use Rattle.wire.specs.Checks.{◌is◌, taken, Check, ◌else◌, checked, ordered}
 use Rattle.wire.specs.Datagram.{opening}
 use Rattle.wire.proofs.Tests.{by-test}
 use Rattle.blocks.specs.Blocks.{messages_of}

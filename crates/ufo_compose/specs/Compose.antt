@@ -1,7 +1,7 @@
 -- UFO, client to server: a message added behind the packet that the output's first bytes are so far.
 -- Assumes nothing.
-use Rattle.std.specs.Prelude.{ℕ, List, [], ◌∷◌, ◌++◌, length, take}
-use Rattle.wire.specs.Checks.{if◌then◌else◌, ◌is◌, ◌at_most◌, Verdict, taken, ◌else◌, checked, ◌into◌}
+use Rattle.std.specs.Prelude.{ℕ, List, [], ◌∷◌, ◌++◌, length, take, if◌then◌else◌}
+use Rattle.wire.specs.Checks.{◌is◌, ◌at_most◌, Verdict, taken, ◌else◌, checked, ◌into◌}
 use Rattle.wire.specs.Reply.{Reply, settle}
 use Rattle.names.specs.Names.{name_bytes, user_bytes}
 use Rattle.blocks.specs.Blocks.{frame}

@@ -1,13 +1,14 @@
 -- What the reader says of any packet is what one list of checks says: 1, 2 and the block lengths (4) over the whole packet, and then each
 -- message in turn, whose checks stand in the readers' order: 1, 2, 3, 4, 8, 5, 6, 7.
 -- Assumes nothing.
+use Rattle.std.specs.Prelude.{if◌then◌else◌}
 use Prim.Native.Nat.{ℕ, ◌≤◌}
 use mathlib.Core.Path.{◌≡◌, refl, ap, ◌∙◌}
 use mathlib.Core.List.{List, [], ◌∷◌, ◌++◌, map}
 use mathlib.Core.Bool.{Bool, true, ◌||◌}
 use borrow.Author.Tests.{eq-eqb}
 use lib.ListN.{length, drop}
-use Rattle.wire.specs.Checks.{if◌then◌else◌, ◌is◌, Verdict, refused, taken, Check, ◌else◌, checked, ordered, ◌into◌}
+use Rattle.wire.specs.Checks.{◌is◌, Verdict, refused, taken, Check, ◌else◌, checked, ordered, ◌into◌}
 use Rattle.wire.specs.Datagram.{limit, opening}
 use Rattle.wire.proofs.Tests.{by-test}
 use Rattle.wire.proofs.Checks.{into-checked}

@@ -1,5 +1,6 @@
 -- One message: what the block at its place and its type byte say of it.
 -- Assumes nothing.
+use Rattle.std.specs.Prelude.{if◌then◌else◌}
 use Prim.Native.Nat.{ℕ, ◌<◌}
 use mathlib.Core.List.{List}
 use mathlib.Core.Path.{◌≡◌, refl, sym, ◌∙◌}
@@ -7,7 +8,7 @@ use mathlib.Core.Bool.{Bool, true, false}
 use native.Mathlib.Omega.{arith}
 use borrow.Author.Tests.{le-leb, lt-leb, eq-eqb, ne_eqb}
 use lib.ListN.{length, drop}
-use Rattle.wire.specs.Checks.{if◌then◌else◌, ◌is◌, Verdict, refused, taken}
+use Rattle.wire.specs.Checks.{◌is◌, Verdict, refused, taken}
 use Rattle.blocks.specs.Blocks.{stated, end_at, block_at}
 use Rattle.blocks.specs.declared.Block.TheVariants as block
 use Rattle.blocks.proofs.NextBlock.{missed}

@@ -1,6 +1,6 @@
 // UFO, client to server: a packet of one or more messages, and each message, read.
-ghost use Rattle.std.specs.Prelude.{◌≡◌, true, ◌≤◌, ◌<◌, length};
-ghost use Rattle.wire.specs.Checks.{if◌then◌else◌, ◌is◌};
+ghost use Rattle.std.specs.Prelude.{◌≡◌, true, ◌≤◌, ◌<◌, length, if◌then◌else◌};
+ghost use Rattle.wire.specs.Checks.{◌is◌};
 ghost use Rattle.wire.specs.Datagram.{limit};
 ghost use Rattle.blocks.specs.Blocks.{upstream, is_whole, messages_of, end_at};
 ghost use Rattle.ufo_up.specs.Up.{read_l, read_t, read_u, read_each, read_up, message_at, message_in};

@@ -1,5 +1,6 @@
 -- What each writer replies: the checks of its fields in the reader's order, then whether the packet fits the room.
 -- Assumes nothing.
+use Rattle.std.specs.Prelude.{if◌then◌else◌}
 use Prim.Native.Nat.{ℕ, ◌+◌, ◌-◌, ◌^◌, ◌<◌}
 use mathlib.Core.Path.{◌≡◌, refl, ◌∙◌}
 use mathlib.Core.List.{List, [], ◌∷◌}
@@ -8,7 +9,7 @@ use native.Mathlib.Omega.{arith}
 use borrow.Author.Tests.{lt-leb, leb-true, leb-false, ne_eqb}
 use lib.ListN.{length}
 use lib.Dec.{leb}
-use Rattle.wire.specs.Checks.{if◌then◌else◌, Check, ◌else◌, checked, refused, taken}
+use Rattle.wire.specs.Checks.{Check, ◌else◌, checked, refused, taken}
 use Rattle.wire.specs.Reply.{Reply, within}
 use Rattle.wire.proofs.Tests.{by-test}
 use Rattle.wire.proofs.Settling.{settle-checked, settle-further}

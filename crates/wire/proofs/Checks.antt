@@ -1,11 +1,12 @@
 -- What a list of checks says: what is taken has passed every one, what passes every one is taken, and a refusal stands.
 -- Assumes nothing.
+use Rattle.std.specs.Prelude.{if◌then◌else◌}
 use Prim.Native.Nat.{ℕ}
 use mathlib.Core.Path.{◌≡◌, refl}
 use mathlib.Core.List.{List, [], ◌∷◌}
 use mathlib.Core.Bool.{Bool, true, false, not, ◌&&◌, ◌||◌}
 use borrow.Author.Tests.{eqb-true}
-use Rattle.wire.specs.Checks.{if◌then◌else◌, ◌is◌, Check, ◌else◌, checked, Passed, Verdict, refused, taken, ◌into◌}
+use Rattle.wire.specs.Checks.{◌is◌, Check, ◌else◌, checked, Passed, Verdict, refused, taken, ◌into◌}
 use Rattle.wire.proofs.Tests.{by-test, impossible}
 
 -- a refusal is no taking

@@ -1,11 +1,12 @@
 -- A refusal has a number that is not 0: where none of its checks refuses under 0, neither does a list of them.
 -- Assumes nothing.
+use Rattle.std.specs.Prelude.{if◌then◌else◌}
 use Prim.Native.Nat.{ℕ}
 use mathlib.Core.Path.{◌≡◌, refl}
 use mathlib.Core.Bool.{Bool, true, false, not, ◌&&◌}
 use mathlib.Core.List.{List, [], ◌∷◌}
 use borrow.Author.Tests.{not-true, eqb-false}
-use Rattle.wire.specs.Checks.{if◌then◌else◌, ◌is◌, Verdict, refused, taken, Check, checked}
+use Rattle.wire.specs.Checks.{◌is◌, Verdict, refused, taken, Check, checked}
 use Rattle.wire.proofs.Tests.{by-test, and_left, and_right}
 use Rattle.wire.proofs.Checks.{not-both, chosen}
 

@@ -1,16 +1,11 @@
 -- Definitions that read as a list of checks, each with the number under which it refuses.
 -- Assumes nothing.
-use Rattle.std.specs.Prelude.{ℕ, suc, ◌≡◌, List, [], ◌∷◌, Bool, true, false, ◌&&◌, length, leb, eqb}
+use Rattle.std.specs.Prelude.{ℕ, suc, ◌≡◌, List, [], ◌∷◌, Bool, true, false, ◌&&◌, if◌then◌else◌, length, leb, eqb}
 
-infixr 5 if◌then◌else◌
 infixl 40 ◌is◌
 infixl 40 ◌at_most◌
 infixl 30 ◌else◌
 infixl 20 ◌into◌
-abbrev pub if◌then◌else◌ : {A : Type 0} → Bool → A → A → A
-if true then a else b = a
-if false then a else b = b
-
 abbrev pub ◌is◌ : ℕ → ℕ → Bool
 m is n = eqb m n
 

@@ -1,7 +1,7 @@
 -- What goes into lent output: one pair of definitions for every writer.
 -- Assumes nothing.
-use Rattle.std.specs.Prelude.{ℕ, ◌≡◌, List, ◌++◌, length, drop}
-use Rattle.wire.specs.Checks.{if◌then◌else◌, ◌at_most◌, Verdict, refused, taken}
+use Rattle.std.specs.Prelude.{ℕ, ◌≡◌, List, ◌++◌, length, drop, if◌then◌else◌}
+use Rattle.wire.specs.Checks.{◌at_most◌, Verdict, refused, taken}
 use Rattle.wire.specs.declared.output.Written.{Written}
 use Rattle.wire.specs.declared.output.Written.TheVariants.{Refused, Bytes}
 

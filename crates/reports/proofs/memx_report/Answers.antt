@@ -1,9 +1,10 @@
 -- `memx_report` meets its contract: what the reader answers decides, and then whose session it is.
+use Rattle.std.specs.Prelude.{if◌then◌else◌}
 use Prim.Native.Nat.{ℕ, ◌+◌}
 use mathlib.Core.Path.{◌≡◌, refl}
 use mathlib.Core.List.{List}
 use lib.ListN.{length}
-use Rattle.wire.specs.Checks.{if◌then◌else◌, ◌is◌, Verdict, refused, taken, ◌into◌}
+use Rattle.wire.specs.Checks.{◌is◌, Verdict, refused, taken, ◌into◌}
 use Rattle.wire.proofs.Tests.{by-test}
 use Rattle.memx.specs.Packet as memx
 use Rattle.memx.specs.Read.{blocks_at, read}
