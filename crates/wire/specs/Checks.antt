@@ -1,6 +1,6 @@
 -- Definitions that read as a list of checks, each with the number under which it refuses.
 -- Assumes nothing.
-use Rattle.std.specs.Prelude.{ℕ, suc, ◌≡◌, List, [], ◌∷◌, Bool, true, false, ◌&&◌, if◌then◌else◌, length, leb, eqb}
+use Rattle.std.specs.Prelude.{ℕ, suc, ◌≡◌, List, [], ◌∷◌, Bool, true, ◌&&◌, if◌then◌else◌, length, leb, eqb}
 
 infixl 40 ◌is◌
 infixl 40 ◌at_most◌

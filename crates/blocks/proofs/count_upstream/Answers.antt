@@ -3,7 +3,6 @@ use Prim.Native.Nat.{ℕ, ◌+◌}
 use mathlib.Core.Path.{◌≡◌, refl, sym, ◌∙◌}
 use native.Mathlib.Omega.{arith}
 use mathlib.Core.List.{List}
-use lib.ListN.{length}
 use Rattle.blocks.proofs.NextBlock.{Stands, found, missed, tally-step, tally-torn, tally-empty, tally-end, count-some}
 use Rattle.blocks.proofs.NextBlock.{count_none}
 use Rattle.blocks.proofs.count_upstream.Goals.{Else-length-eq0}

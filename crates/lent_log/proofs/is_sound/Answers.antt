@@ -1,7 +1,6 @@
 -- The whole is sound exactly if what is left is, from the place where the last block ended; a turn goes one block on (`Passes`).
 use mathlib.Core.Path.{refl, sym, ◌∙◌}
 use native.Mathlib.Omega.{arith}
-use lib.ListN.{length}
 use Rattle.lent_log.proofs.Passes.{long-turn, good_turn, torn-turn, last_turn}
 use Rattle.lent_log.proofs.is_sound.Goals as goal
 
