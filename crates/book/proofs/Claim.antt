@@ -21,7 +21,8 @@ sampled : Says samples
 sampled = ((clock.samples).0, (clock.waits).0, ((clock.samples).1, (clock.waits).1, ((clock.samples).2, (clock.waits).2, tt)))
 
 pub all_hold : All book
-unfolding be bytes_of letter_or_digit blank text_then_spaces frames cut cut_full read read_s read_e read_up read_each read_message read_t memx.read
+unfolding be bytes_of letter_or_digit blank text_then_spaces frames cut cut_full read read_s read_e read_up read_each read_message read_t
+    memx.read
     memx.read_news memx.read_messages every in_place hangs standing
 all_hold =
     refl

@@ -44,7 +44,8 @@ unfolding opens every in_place hangs lists.ranges lists.missing standing held_am
 stands = tt
 
 worked-out : Unit {0}
-unfolding stands frames cut cut_full read read_s read_e memx.read memx.read_news memx.read_messages freed_from hold_one hold_all run held_from
+unfolding stands frames cut cut_full read read_s read_e memx.read memx.read_news memx.read_messages freed_from hold_one hold_all run
+    held_from
     report_of reporting taking
 worked-out = tt
 

@@ -17,7 +17,8 @@ use Rattle.wire.proofs.Tests.{by-test}
 use Rattle.wire.proofs.Width.{length-bytes_of}
 use Rattle.names.specs.Names.{name_bytes}
 use Rattle.ufo.specs.Down as ufo
-use Rattle.ufo.specs.Down.{accept, reject, write, checks_a, read_a, checks_j, read_j, checks_s, read_s, checks_e, read_e, kind, by_kind, read}
+use Rattle.ufo.specs.Down.{accept, reject, write, checks_a, read_a, checks_j, read_j, checks_s, read_s, checks_e, read_e, kind, by_kind}
+use Rattle.ufo.specs.Down.{read}
 use Rattle.ufo.specs.Numbers.{held}
 use Rattle.ufo.proofs.DownLaid.{of_accept, of_reject}
 use Rattle.ufo_write.specs.WriteDown.{accept_reply, reject_reply}

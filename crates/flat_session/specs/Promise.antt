@@ -1,7 +1,8 @@
 -- What is promised to a program in C, in the header's words: of what it holds, and of what the header's functions answer of that. Claims
 -- shows each of these from the claim of `session` that has its name.
 -- Assumes nothing.
-use Rattle.std.specs.Prelude.{ℕ, zero, suc, ◌+◌, ◌-◌, ◌^◌, ◌%◌, ◌≤◌, ◌<◌, ◌≡◌, ◌⊎◌, List, [], Bool, true, false, Float, length, take, get_or}
+use Rattle.std.specs.Prelude.{ℕ, zero, suc, ◌+◌, ◌-◌, ◌^◌, ◌%◌, ◌≤◌, ◌<◌, ◌≡◌, ◌⊎◌, List, [], Bool, true, false, Float, length, take}
+use Rattle.std.specs.Prelude.{get_or}
 use Rattle.wire.specs.Fields.{Bytes}
 use Rattle.blocks.specs.Blocks.{frames}
 use Rattle.lent_log.specs.Log.{messages_in}

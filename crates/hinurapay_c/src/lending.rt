@@ -1,7 +1,8 @@
 // The lending end: the log, and what it answers.
 ghost use Rattle.std.specs.Prelude.{◌≡◌, length};
 ghost use Rattle.flat.specs.Wrote.{FlatSettled};
-ghost use Rattle.flat_log.specs.Lending.{FlatEntered, add_verdict, add_many_verdict, end_answer, answer_flat, heartbeat_flat, end_packet_flat};
+ghost use Rattle.flat_log.specs.Lending.{FlatEntered, add_verdict, add_many_verdict, end_answer, answer_flat, heartbeat_flat};
+ghost use Rattle.flat_log.specs.Lending.{end_packet_flat};
 
 use flat::wrote::Wrote;
 use flat_log::{FlatLog, FlatLogged};

@@ -81,7 +81,8 @@ module _ (s : List ℕ) (p : ℕ) where
   pub sound-end : p ≤ length s → sound (cut 0 (drop p s)) ≡ eqb p (length s)
   sound-end i = sound-zero (drop p s) ∙ rw (le-leb p (length s) i) at (fills-end s p)
 
-  pub tally-torn : (n k : ℕ) (b : Bool) → p < length s → length s < end_at s p → tally_from k b (cut_all (suc n) (drop p s)) ≡ count.Refused 4
+  pub tally-torn : (n k : ℕ) (b : Bool) → p < length s → length s < end_at s p → tally_from k b (cut_all (suc n) (drop p s))
+      ≡ count.Refused 4
   unfolding cut_all
   tally-torn n k b i h = rw (ne_eqb (length (drop p s)) 0 (λ e. omega (arith, rw length-drop at e)), not_there s p h)
 

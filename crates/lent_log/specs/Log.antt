@@ -1,6 +1,7 @@
 -- The log: when it hangs together, its messages, and what adding and declaring the end leave.
 -- Assumes nothing.
-use Rattle.std.specs.Prelude.{ℕ, zero, suc, ◌+◌, ◌-◌, ◌^◌, ◌≡◌, List, [], ◌∷◌, ◌++◌, Bool, true, not, ◌&&◌, length, take, drop, if◌then◌else◌}
+use Rattle.std.specs.Prelude.{ℕ, zero, suc, ◌+◌, ◌-◌, ◌^◌, ◌≡◌, List, [], ◌∷◌, ◌++◌, Bool, true, not, ◌&&◌, length, take, drop}
+use Rattle.std.specs.Prelude.{if◌then◌else◌}
 use Rattle.wire.specs.Checks.{◌is◌, ◌at_most◌, Verdict, refused, taken, Check, ◌else◌, checked}
 use Rattle.blocks.specs.Blocks.{frames, there, first, rest, Cut, torn, whole, before, cut, is_whole, messages_of}
 use Rattle.blocks.specs.declared.Count.{Count}

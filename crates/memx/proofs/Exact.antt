@@ -17,7 +17,8 @@ use Rattle.blocks.proofs.Frames.{short-frames}
 use Rattle.blocks.proofs.Cutting.{cut-frames, frames-cut}
 use Rattle.memx.specs.Packet.{Packet, heartbeat, shutdown, messages, limit, header_size, headed, laid, write, FitExtra, FitNews}
 use Rattle.memx.specs.Packet.{FitMessages, Fit}
-use Rattle.memx.specs.Read.{kind_in, header_in, session_in, number_in, extra_in, count_in, blocks_at, blocks_in, news_checks, messages_checks}
+use Rattle.memx.specs.Read.{kind_in, header_in, session_in, number_in, extra_in, count_in, blocks_at, blocks_in, news_checks}
+use Rattle.memx.specs.Read.{messages_checks}
 use Rattle.memx.specs.Read.{news, read}
 use Rattle.blocks.proofs.Counting.{whole_is, count-frames}
 use Rattle.memx.proofs.Header.{length-laid, length-extra, header-again}

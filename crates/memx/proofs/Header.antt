@@ -67,7 +67,8 @@ module _ (session first count : ℕ) (extra blocks : List ℕ) where
   blocks-laid = rw (behind-headed 2 session first extra (bytes_of 2 count ++ blocks) 2)
 
 -- the header stored field by field
-pub header-put : (out : List ℕ) (kind session number : ℕ) (extra : List ℕ) → let own = set (set out 0 kind) 1 (header_size + length extra) in
+pub header-put : (out : List ℕ) (kind session number : ℕ) (extra : List ℕ)
+    → let own = set (set out 0 kind) 1 (header_size + length extra) in
     sets (sets (sets own 2 (bytes_of 8 session)) 10 (bytes_of 8 number)) 18 extra ≡ sets out 0 (headed kind session number extra [])
 unfolding headed bytes_of
 header-put out kind session number extra = rw append-nil
@@ -77,7 +78,8 @@ headed-before : (kind session number : ℕ) (extra follows : List ℕ)
     → headed kind session number extra [] ++ follows ≡ headed kind session number extra follows
 unfolding headed bytes_of
 headed-before kind session number extra follows =
-    ap (λ (x : List ℕ). kind ∷ (header_size + length extra) ∷ (bytes_of 8 session ++ (bytes_of 8 number ++ (x ++ follows)))) (append-nil extra)
+    ap (λ (x : List ℕ). kind ∷ (header_size + length extra) ∷ (bytes_of 8 session ++ (bytes_of 8 number ++ (x ++ follows))))
+    (append-nil extra)
 
 -- header, count and blocks stored one after the other
 pub laid-put : (out : List ℕ) (session first count : ℕ) (extra blocks : List ℕ) → let n = header_size + length extra in

@@ -7,7 +7,8 @@ use mathlib.Core.List.{List, [], ◌∷◌, ◌++◌}
 use Rattle.wire.specs.Checks.{◌is◌, taken, Check, checked, ordered}
 use Rattle.blocks.specs.Blocks.{messages_of}
 use Rattle.memx.specs.Packet.{messages}
-use Rattle.memx.specs.Read.{kind_in, session_in, number_in, extra_in, blocks_in, header_checks, news_checks, messages_checks, news, read_news}
+use Rattle.memx.specs.Read.{kind_in, session_in, number_in, extra_in, blocks_in, header_checks, news_checks, messages_checks, news}
+use Rattle.memx.specs.Read.{read_news}
 use Rattle.memx.specs.Read.{read_messages, read}
 
 -- all that is checked of a packet, in one list
@@ -35,5 +36,6 @@ module _ (d : List ℕ) where
   pub order-messages : numbers (header_checks d ++ messages_checks d) ≡ 1 ∷ 2 ∷ 3 ∷ 4 ∷ 5 ∷ 5 ∷ 4 ∷ 4 ∷ 6 ∷ 6 ∷ 7 ∷ []
   order-messages = refl
 
-  pub not-the-readers-order : (ordered (header_checks d ++ news_checks d) ≡ false) × (ordered (header_checks d ++ messages_checks d) ≡ false)
+  pub not-the-readers-order : (ordered (header_checks d ++ news_checks d) ≡ false) ×
+      (ordered (header_checks d ++ messages_checks d) ≡ false)
   not-the-readers-order = (refl, refl)

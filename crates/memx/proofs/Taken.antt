@@ -10,7 +10,8 @@ use Rattle.wire.specs.Checks.{◌is◌, taken, Passed}
 use Rattle.wire.proofs.Checks.{all-passed, chosen, taken-same}
 use Rattle.blocks.specs.Blocks.{messages_of}
 use Rattle.memx.specs.Packet.{Packet, messages, limit, header_size}
-use Rattle.memx.specs.Read.{kind_in, header_in, session_in, number_in, extra_in, blocks_in, header_checks, news_checks, messages_checks, news}
+use Rattle.memx.specs.Read.{kind_in, header_in, session_in, number_in, extra_in, blocks_in, header_checks, news_checks, messages_checks}
+use Rattle.memx.specs.Read.{news}
 use Rattle.memx.specs.Read.{read_news, read_messages, read}
 
 module _ (d : List ℕ) (p : Packet) where

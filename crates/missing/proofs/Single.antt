@@ -13,7 +13,8 @@ use Rattle.held.proofs.Bitmap.{none-full}
 use Rattle.missing.specs.Missing.{is_held}
 use Rattle.missing.specs.Runs.{Runs}
 
-pub held-ahead : (held next ahead : ℕ) → is_held held next (next + ahead) ≡ (1 at_most ahead && ahead at_most 31 && full held (next + ahead))
+pub held-ahead : (held next ahead : ℕ) → is_held held next (next + ahead)
+    ≡ (1 at_most ahead && ahead at_most 31 && full held (next + ahead))
 held-ahead held next ahead =
     rw (
       leb-same (next + 1) (next + ahead) 1 ahead (λ h. omega arith) (λ h. omega arith),

@@ -57,7 +57,8 @@ answer-left s room first count left l κs a x e g p = rw (datagram-left _ _ x _ 
 
 message-left : (s : State) (room next : ℕ) (more : List (List ℕ)) (on : ℕ → (List (List ℕ) → Type 0) → Type 0)
     → ((left : List (List ℕ) → Type 0) → left more → on next left)
-    → (m : Message) (left : List (List ℕ) → Type 0) → left (to_message s room m ++ more) → LeavesMessage s room (up_of next (taken m)) on left
+    → (m : Message) (left : List (List ℕ) → Type 0) → left (to_message s room m ++ more)
+    → LeavesMessage s room (up_of next (taken m)) on left
 message-left s room next more on goes (login user password session) left l = goes left l
 message-left s room next more on goes (request first count) left l =
     answer-left s room (record { 0 = first }) count (λ answer. on next (λ answers. left (answer ++ answers)))

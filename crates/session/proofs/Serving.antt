@@ -81,7 +81,8 @@ module _ (s u : State) (i : Inv s) (first count : ℕ) (due : Due s first count)
       let f = length-frame (write_message (request first count)) in
       let z : length d ≤ room_up = omega (arith, f, length-message (request first count) fit) in
       let l : reply (request first count) room_up ≡ taken d = reply-fit (request first count) room_up fit ∙ enough-room d room_up z in
-      let m : Memᴰ d (made s due room_up).up = rw (due.wish, l) (mathlib.Core.List.Memᴰ.append_right s.up (mathlib.Core.List.Memᴰ.head refl)) in
+      let m : Memᴰ d (made s due room_up).up = rw (due.wish, l)
+      (mathlib.Core.List.Memᴰ.append_right s.up (mathlib.Core.List.Memᴰ.head refl)) in
       record { datagram = d; room = room_up; laid = l; sent = g.later.up d m; reads = read_one (request first count) fit }
 
   pub answered : (datagram : List ℕ) (ms : List Message) (room : ℕ) → read_up datagram ≡ taken ms → Memᴰ (request first count) ms
@@ -100,7 +101,8 @@ exchange s i first count due =
     let u : State = made s due 1472 in
     let a : Asked u first count = asked s u i first count due 1472 stop (omega arith) in
     let b : Answered u a.datagram first count 1472 =
-    answered s u i first count due 1472 stop a.datagram (request first count ∷ []) 1472 a.reads (mathlib.Core.List.Memᴰ.head refl) (omega arith) in
+    answered s u i first count due 1472 stop a.datagram (request first count ∷ []) 1472 a.reads (mathlib.Core.List.Memᴰ.head refl)
+    (omega arith) in
     let w : State = step u (serves a.datagram 1472) in
     let j : Inv u = (good s (asks due.sheet due.rule due.elapsed 1472) tt i).inv in
     let k : Inv w = (good u (serves a.datagram 1472) a.sent j).inv in

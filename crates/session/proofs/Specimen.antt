@@ -53,8 +53,10 @@ use Rattle.session.specs.Promise.{holds, Due, made, Exchange}
 
 -- what is unfolded to work it out
 worked-out : Unit {0}
-unfolding be bytes_of letter_or_digit blank text_then_spaces frames cut cut_full read read_a read_s read_e read_up read_each read_message read_t reply
-    verdict log.small log.hangs log.cut_all log.adding_many log.declaring greatest answer_to answer_reply end_packet_reply accept_reply freed_from
+unfolding be bytes_of letter_or_digit blank text_then_spaces frames cut cut_full read read_a read_s read_e read_up read_each read_message
+    read_t reply
+    verdict log.small log.hangs log.cut_all log.adding_many log.declaring greatest answer_to answer_reply end_packet_reply accept_reply
+    freed_from
     every in_place hold_one hold_all run held_from lists.ranges lists.missing hangs report_of reporting taking standing sent to_packet
 worked-out = tt
 

@@ -80,13 +80,15 @@ module _ (area : List ℕ) (slots : area_size ≤ length area) where
   -- Message 1 comes, then a heartbeat with the number 2: message 2 is missing.
   pub one-then-heartbeat-two : after_two (bytes_of 23 0x02_12_0000000000000001_0000000000000001_0001_0001_5A)
       (bytes_of 18 0x00_12_0000000000000001_0000000000000002) ≡ taken (missing ((2 to 2) ∷ []))
-  unfolding be bytes_of frames cut memx.read memx.read_news memx.read_messages freed_from run held_from every in_place hangs report_of reporting
+  unfolding be bytes_of frames cut memx.read memx.read_news memx.read_messages freed_from run held_from every in_place hangs report_of
+      reporting
       taking lists.ranges lists.missing standing
   one-then-heartbeat-two = rw (none-sound area slots, none-sound area slots)
 
   -- Messages 1 and 2 come, then a shutdown with the number 2: the record is complete.
   pub two-then-shutdown-two : after_two (bytes_of 26 0x02_12_0000000000000001_0000000000000001_0002_0001_5A_0001_5A)
       (bytes_of 18 0x01_12_0000000000000001_0000000000000002) ≡ taken complete
-  unfolding be bytes_of frames cut memx.read memx.read_news memx.read_messages freed_from run held_from every in_place hangs report_of reporting
+  unfolding be bytes_of frames cut memx.read memx.read_news memx.read_messages freed_from run held_from every in_place hangs report_of
+      reporting
       taking lists.ranges lists.missing standing
   two-then-shutdown-two = rw (none-sound area slots, none-sound area slots)

@@ -94,7 +94,8 @@ module _ (k : ℕ) (s : List ℕ) (p held : ℕ) (area : List ℕ) (m : ℕ) (ou
 
 -- and where nothing is held
 module _ (k : ℕ) (s : List ℕ) (p : ℕ) (out : List ℕ) where
-  pub own-none : (n : ℕ) → place_of (place_after k s p) ≡ place.Refused n → Reply.Settled (handed_own k s p (length out)) out (Refused n) out
+  pub own-none : (n : ℕ) → place_of (place_after k s p) ≡ place.Refused n
+      → Reply.Settled (handed_own k s p (length out)) out (Refused n) out
   own-none n e = refuses (handed_own k s p (length out)) out n (rw (not-reached (place_after k s p) n e))
 
   module _ (q : ℕ) (e : place_after k s p ≡ taken q) where

@@ -192,7 +192,8 @@ module _ (r : Record) (area out d : List ℕ) (p first count : ℕ) (f : Fills d
             all = rw (length-drop, many) (omega arith)
 
             by : (v : Verdict (List ℕ)) → ByRoom (frames others) v → Settled v out x left
-                → Answered (v into λ _. taken (record { delivered = others; after = past; area = area })) area out (answer_by_own x) area left
+                → Answered (v into λ _. taken (record { delivered = others; after = past; area = area })) area out (answer_by_own x) area
+                left
             by _ lacks h = record { answer = ap answer_by_own h.answer; bytes = h.bytes; slots = refl }
             by _ has h = record { answer = ap answer_by_own h.answer ∙ rw all; bytes = h.bytes; slots = refl }
 

@@ -116,7 +116,8 @@ module _ (r : Record) (area : List ℕ) (report : Report) (h : hangs r ≡ true)
       brought (rw s (own-by-number r.next.0 report (lies r.next.0 report) i a (omega arith))))
 
 -- what is held behind n messages that went out was held before
-still-was : (held next top n m : ℕ) → in_place held next top ≡ true → Held (freed_from n held next) (next + n) m → is_held held next m ≡ true
+still-was : (held next top n m : ℕ) → in_place held next top ≡ true → Held (freed_from n held next) (next + n) m → is_held held next m
+    ≡ true
 still-was held next top n m e h =
     let a = h.past in
     let b = h.near in

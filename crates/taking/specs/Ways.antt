@@ -16,7 +16,8 @@ passing r area top final =
 
 -- the answer r to the count messages from number first on whose blocks stand in the datagram from a place on, and what is left of the area
 -- and of the output
-abbrev pub TakesMessages : Record → (first count : ℕ) (area datagram : List ℕ) (place : ℕ) (out : List ℕ) → Taken → (area_left left : List ℕ)
+abbrev pub TakesMessages : Record → (first count : ℕ) (area datagram : List ℕ) (place : ℕ) (out : List ℕ) → Taken
+    → (area_left left : List ℕ)
     → Type 0
 TakesMessages kept first count area datagram place out =
     Answered (reporting kept area (length out) (messages first (blocks_from datagram place count))) area out

@@ -16,7 +16,8 @@ use Rattle.wire.specs.Reply.{Reply, Settled}
 use Rattle.wire.specs.declared.output.Written.{Written}
 
 -- of a function's contract, as it is generated from the source: `left` is what is read off whatever was lent, when it returns
-abbrev pub Determined : (n : ℕ) (ps : List (ParamKind n)) (r : ResultKind n) (B : Type 0) → ((κs : Lfts n) → AtExit (ended_of n ps r) κs → B) → Out n ps r
+abbrev pub Determined : (n : ℕ) (ps : List (ParamKind n)) (r : ResultKind n) (B : Type 0)
+    → ((κs : Lfts n) → AtExit (ended_of n ps r) κs → B) → Out n ps r
     → Type 0
 Determined n ps r B left post =
     (κs : Lfts n) (a : Dens κs ps) (x y : (res_t r κs).Denot) (s t : AtExit (ended_of n ps r) κs) → post κs a x s → post κs a y t → (x ≡ y)

@@ -26,7 +26,8 @@ pub returns-then-length-eq0 : goal.returns-then-length-eq0
 returns-then-length-eq0 c =
     let s = c.args.s.now in
     let f = found s c.loop-at.at c.in-At.start c.in-At.length c.in-At.next (sym c.next.ensures ∙ c.in-At.is) in
-    sym (count-some s (omega arith) ∙ c.loop-at.invariant.3 ∙ tally-empty s c.loop-at.at c.loop-at.count f.2 (sym f.1 ∙ c.if-length-eq0.true))
+    sym (count-some s (omega arith) ∙ c.loop-at.invariant.3
+    ∙ tally-empty s c.loop-at.at c.loop-at.count f.2 (sym f.1 ∙ c.if-length-eq0.true))
 
 pub overflow_add-count : goal.overflow_add-count
 overflow_add-count c = let f = step c in omega arith

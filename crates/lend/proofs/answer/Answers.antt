@@ -30,7 +30,12 @@ pub returns-then-count-eq0 : goal.returns-then-count-eq0
 unfolding answer_reply
 returns-then-count-eq0 c =
     let a = c.args in
-    refuses _ _ 6 (rw (hung (goal.at.returns-then-count-eq0 c).Else-not-hangs_together, ne_eqb a.first.0 0 (λ e. omega arith), eq-eqb a.count 0 (omega arith)))
+    refuses _ _ 6 (rw (
+      hung (goal.at.returns-then-count-eq0 c).Else-not-hangs_together,
+      ne_eqb a.first.0 0 (λ e. omega arith),
+      eq-eqb
+          a.count 0 (omega arith),
+    ))
 
 pub returns-then-out-lt-LIMIT : goal.returns-then-out-lt-LIMIT
 unfolding answer_reply
@@ -50,7 +55,8 @@ pub returns-then-number-total : goal.returns-then-number-total
 returns-then-number-total c =
     let a = c.args in
     settled-by
-    (answers-packed a.log a.bytes.now (hung (goal.at.returns-then-number-total c).Else-not-hangs_together) a.first.0 a.count (length a.out.now)
+    (answers-packed a.log a.bytes.now (hung (goal.at.returns-then-number-total c).Else-not-hangs_together) a.first.0 a.count
+    (length a.out.now)
     (omega arith) (omega arith) (omega arith) (omega arith))
     c.send.ensures
 

@@ -28,4 +28,5 @@ overflow_add-total c =
 pub returns : goal.returns
 returns c =
     let a = c.args in
-    settled-by (replies-beat a.log a.bytes.now (hung (goal.at.returns c).Else-not-hangs_together) (length a.out.now)) c.write_messages.ensures
+    settled-by (replies-beat a.log a.bytes.now (hung (goal.at.returns c).Else-not-hangs_together) (length a.out.now))
+    c.write_messages.ensures

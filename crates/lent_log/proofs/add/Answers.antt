@@ -28,13 +28,15 @@ returns-then-ended c =
 pub returns-then-len-gt-LONGEST_MESSAGE : goal.returns-then-len-gt-LONGEST_MESSAGE
 returns-then-len-gt-LONGEST_MESSAGE c =
     let a = c.args in
-    refuses _ _ 2 (one-long a.log a.bytes.now a.message.now (hung (goal.at.returns-then-len-gt-LONGEST_MESSAGE c).Else-not-hangs_together) c.if-ended.false c.if-len-gt-LONGEST_MESSAGE.true)
+    refuses _ _ 2 (one-long a.log a.bytes.now a.message.now (hung (goal.at.returns-then-len-gt-LONGEST_MESSAGE c).Else-not-hangs_together)
+    c.if-ended.false c.if-len-gt-LONGEST_MESSAGE.true)
 
 pub returns-then-count-eq-MOST_MESSAGES : goal.returns-then-count-eq-MOST_MESSAGES
 returns-then-count-eq-MOST_MESSAGES c =
     let a = c.args in
     refuses _ _ 7
-    (one-over a.log a.bytes.now a.message.now (hung (goal.at.returns-then-count-eq-MOST_MESSAGES c).Else-not-hangs_together) c.if-ended.false c.if-len-gt-LONGEST_MESSAGE.false c.if-count-eq-MOST_MESSAGES.true)
+    (one-over a.log a.bytes.now a.message.now (hung (goal.at.returns-then-count-eq-MOST_MESSAGES c).Else-not-hangs_together)
+    c.if-ended.false c.if-len-gt-LONGEST_MESSAGE.false c.if-count-eq-MOST_MESSAGES.true)
 
 pub overflow_sub-bytes : goal.overflow_sub-bytes
 overflow_sub-bytes c = (known (goal.at.overflow_sub-bytes c).Else-not-hangs_together).mark
@@ -43,7 +45,8 @@ pub returns-then-bytes-used : goal.returns-then-bytes-used
 returns-then-bytes-used c =
     let a = c.args in
     refuses _ _ 9
-    (one-crowded a.log a.bytes.now a.message.now (hung (goal.at.returns-then-bytes-used c).Else-not-hangs_together) c.if-ended.false c.if-len-gt-LONGEST_MESSAGE.false
+    (one-crowded a.log a.bytes.now a.message.now (hung (goal.at.returns-then-bytes-used c).Else-not-hangs_together) c.if-ended.false
+    c.if-len-gt-LONGEST_MESSAGE.false
     c.if-count-eq-MOST_MESSAGES.false c.if-bytes-used.true)
 
 pub overflow_add-result : goal.overflow_add-result
@@ -54,5 +57,6 @@ overflow_add-result c =
 pub returns : goal.returns
 returns c =
     let a = c.args in
-    one-entered a.log a.bytes.now a.message.now (hung (goal.at.returns c).Else-not-hangs_together) c.if-ended.false c.if-len-gt-LONGEST_MESSAGE.false
+    one-entered a.log a.bytes.now a.message.now (hung (goal.at.returns c).Else-not-hangs_together) c.if-ended.false
+    c.if-len-gt-LONGEST_MESSAGE.false
     c.if-count-eq-MOST_MESSAGES.false c.if-bytes-used.false _ _ c.put2.ensures c.copy.ensures

@@ -44,7 +44,8 @@ pub returns-then-count-more : goal.returns-then-count-more
 returns-then-count-more c =
     let a = c.args in
     refuses _ _ 7
-    (many-over a.log a.bytes.now a.framed.now (hung (goal.at.returns-then-count-more c).Else-not-hangs_together) (goes_on (goal.at.returns-then-count-more c).In-Blocks) _ (messages (goal.at.returns-then-count-more c).In-Blocks) c.if-count-more.true)
+    (many-over a.log a.bytes.now a.framed.now (hung (goal.at.returns-then-count-more c).Else-not-hangs_together) (goes_on
+    (goal.at.returns-then-count-more c).In-Blocks) _ (messages (goal.at.returns-then-count-more c).In-Blocks) c.if-count-more.true)
 
 pub overflow_sub-bytes : goal.overflow_sub-bytes
 overflow_sub-bytes c = (known (goal.at.overflow_sub-bytes c).Else-not-hangs_together).mark
@@ -53,7 +54,8 @@ pub returns-then-bytes-used : goal.returns-then-bytes-used
 returns-then-bytes-used c =
     let a = c.args in
     refuses _ _ 9
-    (many-crowded a.log a.bytes.now a.framed.now (hung (goal.at.returns-then-bytes-used c).Else-not-hangs_together) (goes_on (goal.at.returns-then-bytes-used c).In-Blocks) _ (messages (goal.at.returns-then-bytes-used c).In-Blocks) c.if-count-more.false
+    (many-crowded a.log a.bytes.now a.framed.now (hung (goal.at.returns-then-bytes-used c).Else-not-hangs_together) (goes_on
+    (goal.at.returns-then-bytes-used c).In-Blocks) _ (messages (goal.at.returns-then-bytes-used c).In-Blocks) c.if-count-more.false
     (framed-bytes (goal.at.returns-then-bytes-used c).Else-not-hangs_together) c.if-bytes-used.true)
 
 pub copy-requires : goal.copy-requires
@@ -65,11 +67,13 @@ pub returns-in-Refused : goal.returns-in-Refused
 returns-in-Refused c =
     let a = c.args in
     refuses _ _ _
-    (not-counted a.log a.bytes.now a.framed.now c.in-Refused.n (hung (goal.at.returns-in-Refused c).Else-not-hangs_together) c.if-ended.false
+    (not-counted a.log a.bytes.now a.framed.now c.in-Refused.n (hung (goal.at.returns-in-Refused c).Else-not-hangs_together)
+    c.if-ended.false
     (sym c.tally.ensures ∙ c.in-Refused.is))
 
 pub returns-else-bytes-used : goal.returns-else-bytes-used
 returns-else-bytes-used c =
     let a = c.args in
-    many-entered a.log a.bytes.now a.framed.now (hung (goal.at.returns-else-bytes-used c).Else-not-hangs_together) (goes_on (goal.at.returns-else-bytes-used c).In-Blocks) _ (messages (goal.at.returns-else-bytes-used c).In-Blocks) c.if-count-more.false
+    many-entered a.log a.bytes.now a.framed.now (hung (goal.at.returns-else-bytes-used c).Else-not-hangs_together) (goes_on
+    (goal.at.returns-else-bytes-used c).In-Blocks) _ (messages (goal.at.returns-else-bytes-used c).In-Blocks) c.if-count-more.false
     (framed-bytes (goal.at.returns-else-bytes-used c).Else-not-hangs_together) c.if-bytes-used.false _ c.copy.ensures

@@ -41,16 +41,19 @@ returns-in-Refused c =
     let s = c.args.s.now in
     let f = missed s c.loop-at.at c.in-Refused.n (sym c.next.ensures ∙ c.in-Refused.is) in
     rw f.0
-    (sym (c.loop-at.invariant.2 ∙ tally-torn s c.loop-at.at (length s - c.loop-at.count) c.loop-at.count c.loop-at.small c.loop-at-test.true f.1))
+    (sym (c.loop-at.invariant.2
+    ∙ tally-torn s c.loop-at.at (length s - c.loop-at.count) c.loop-at.count c.loop-at.small c.loop-at-test.true f.1))
 
 pub returns-then-not-small : goal.returns-then-not-small
 returns-then-not-small c =
     let s = c.args.s.now in
-    sym (c.loop-at.invariant.2 ∙ tally-end s c.loop-at.at (length s - c.loop-at.count) c.loop-at.count c.loop-at.small false (not-true c.loop-at.small c.if-not-small.true-raw)
+    sym (c.loop-at.invariant.2 ∙ tally-end s c.loop-at.at (length s - c.loop-at.count) c.loop-at.count c.loop-at.small false
+    (not-true c.loop-at.small c.if-not-small.true-raw)
     c.loop-at-test.false)
 
 pub returns : goal.returns
 returns c =
     let s = c.args.s.now in
-    sym (c.loop-at.invariant.2 ∙ tally-end s c.loop-at.at (length s - c.loop-at.count) c.loop-at.count c.loop-at.small true (not-false c.loop-at.small c.if-not-small.false-raw)
+    sym (c.loop-at.invariant.2 ∙ tally-end s c.loop-at.at (length s - c.loop-at.count) c.loop-at.count c.loop-at.small true
+    (not-false c.loop-at.small c.if-not-small.false-raw)
     c.loop-at-test.false)

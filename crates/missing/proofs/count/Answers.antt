@@ -31,7 +31,8 @@ last_of-last-requires c = (c.loop-first-test.true, c.loop-first.invariant.3)
 pub returns-then-last-reach : goal.returns-then-last-reach
 returns-then-last-reach c =
     let a = c.args in
-    let e = the_last (is_held a.held a.next) a.next (a.top - a.next) c.loop-first.first c.last_of-last.result c.last_of-last.ensures c.if-last-reach.true in
+    let e = the_last (is_held a.held a.next) a.next (a.top - a.next) c.loop-first.first c.last_of-last.result c.last_of-last.ensures
+    c.if-last-reach.true in
     omega (arith, c.loop-first.invariant.0, ap length e)
 
 -- a range that ends before the top ends before a held message, and the next one begins behind that
@@ -43,7 +44,8 @@ near c =
 onward : (c : After-past_held-first) → c.last_of-last.result + 2 ≤ c.past_held-first.result
 onward c =
     let a = c.args in
-    apart_by (is_held a.held a.next) a.next (a.top - a.next) c.loop-first.first c.last_of-last.result c.last_of-last.ensures c.past_held-first.result
+    apart_by (is_held a.held a.next) a.next (a.top - a.next) c.loop-first.first c.last_of-last.result c.last_of-last.ensures
+    c.past_held-first.result
     c.past_held-first.ensures (omega arith)
 
 pub overflow_add-last : goal.overflow_add-last
@@ -64,7 +66,8 @@ loop-first-smaller c =
 pub loop-first-preserved : goal.loop-first-preserved
 loop-first-preserved c =
     let a = c.args in
-    let e = on-to (is_held a.held a.next) a.next (a.top - a.next) c.loop-first.first c.last_of-last.result c.last_of-last.ensures c.past_held-first.result c.past_held-first.ensures in
+    let e = on-to (is_held a.held a.next) a.next (a.top - a.next) c.loop-first.first c.last_of-last.result c.last_of-last.ensures
+    c.past_held-first.result c.past_held-first.ensures in
     let n = onward c in
     (omega (arith, c.loop-first.invariant.0, ap length e), omega arith, c.past_held-first.ensures.near, c.past_held-first.ensures.free)
 

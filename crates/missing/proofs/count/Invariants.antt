@@ -8,7 +8,8 @@ use Rattle.missing.proofs.count.Given as goal
 
 abbrev pub invariant-loop-first : goal.invariant-loop-first
 invariant-loop-first l =
-    (length (missing l.held l.next l.top) ≡ l.ranges + length (rest (is_held l.held l.next) l.next (l.top - l.next) l.first)) × (2 * l.ranges ≤ l.first)
+    (length (missing l.held l.next l.top) ≡ l.ranges + length (rest (is_held l.held l.next) l.next (l.top - l.next) l.first)) ×
+    (2 * l.ranges ≤ l.first)
     × (l.first ≤ 32) × (is_held l.held l.next (l.next + l.first) ≡ false)
 
 abbrev pub decreases-loop-first : goal.decreases-loop-first

@@ -26,11 +26,23 @@ loop-last-init c =
 
 pub returns-then-last-reach : goal.returns-then-last-reach
 returns-then-last-reach c =
-    record { after = omega arith; within = omega arith; gap = rw c.if-last-reach.true at c.loop-last.invariant.2; ends = λ l. absurd (omega arith) }
+    record {
+      after = omega arith;
+      within = omega arith;
+      gap = rw c.if-last-reach.true at c.loop-last.invariant.2;
+      ends = λ l. absurd
+          (omega arith);
+    }
 
 pub returns-then-is_held : goal.returns-then-is_held
 returns-then-is_held c =
-    record { after = c.loop-last.invariant.0; within = c.loop-last.invariant.1; gap = c.loop-last.invariant.2; ends = λ _. sym c.is_held.ensures ∙ c.if-is_held.true }
+    record {
+      after = c.loop-last.invariant.0;
+      within = c.loop-last.invariant.1;
+      gap = c.loop-last.invariant.2;
+      ends = λ _. sym
+          c.is_held.ensures ∙ c.if-is_held.true;
+    }
 
 pub loop-last-preserved : goal.loop-last-preserved
 loop-last-preserved c =

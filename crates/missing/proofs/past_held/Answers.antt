@@ -39,4 +39,10 @@ loop-past-preserved c =
 
 pub returns : goal.returns
 returns c =
-    record { after = c.loop-past.invariant.0; near = c.loop-past.invariant.1; filled = c.loop-past.invariant.2; free = sym c.is_held.ensures ∙ c.loop-past-test.false }
+    record {
+      after = c.loop-past.invariant.0;
+      near = c.loop-past.invariant.1;
+      filled = c.loop-past.invariant.2;
+      free = sym c.is_held.ensures
+          ∙ c.loop-past-test.false;
+    }

@@ -61,11 +61,13 @@ pub returns-in-Refused : goal.returns-in-Refused
 returns-in-Refused c =
     let a = c.args in
     tells a.kept a.area.now a.out.now a.datagram.now a.place a.first a.count c.requires.2 c.requires.3 c.requires.4
-    (sym c.contradicts.ensures ∙ c.if-contradicts.false) _ _ (rw c.in-Refused.is at (given_so (goal.at.returns-in-Refused c).After-deliver-given))
+    (sym c.contradicts.ensures ∙ c.if-contradicts.false) _ _
+    (rw c.in-Refused.is at (given_so (goal.at.returns-in-Refused c).After-deliver-given))
 
 pub returns-in-Messages : goal.returns-in-Messages
 returns-in-Messages c =
     let a = c.args in
     rw (c.tell-after.ensures, c.free_from-free.ensures, c.free_from-held.ensures)
     (tells a.kept a.area.now a.out.now a.datagram.now a.place a.first a.count c.requires.2 c.requires.3 c.requires.4
-    (sym c.contradicts.ensures ∙ c.if-contradicts.false) _ _ (rw c.in-Messages.is at (given_so (goal.at.returns-in-Messages c).After-deliver-given)))
+    (sym c.contradicts.ensures ∙ c.if-contradicts.false) _ _
+    (rw c.in-Messages.is at (given_so (goal.at.returns-in-Messages c).After-deliver-given)))

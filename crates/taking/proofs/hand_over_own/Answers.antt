@@ -31,11 +31,13 @@ pub returns-in-Refused : goal.returns-in-Refused
 returns-in-Refused c =
     let a = c.args in
     tells-own a.kept a.area.now a.out.now a.datagram.now a.place a.first a.count c.requires.1 c.requires.2 c.requires.3
-    (sym c.contradicts.ensures ∙ c.if-contradicts.false) c.requires.0 _ _ (rw c.in-Refused.is at (settled (goal.at.returns-in-Refused c).After-deliver_own-written))
+    (sym c.contradicts.ensures ∙ c.if-contradicts.false) c.requires.0 _ _
+    (rw c.in-Refused.is at (settled (goal.at.returns-in-Refused c).After-deliver_own-written))
 
 pub returns-in-Bytes : goal.returns-in-Bytes
 returns-in-Bytes c =
     let a = c.args in
     rw c.tell-after.ensures
     (tells-own a.kept a.area.now a.out.now a.datagram.now a.place a.first a.count c.requires.1 c.requires.2 c.requires.3
-    (sym c.contradicts.ensures ∙ c.if-contradicts.false) c.requires.0 _ _ (rw c.in-Bytes.is at (settled (goal.at.returns-in-Bytes c).After-deliver_own-written)))
+    (sym c.contradicts.ensures ∙ c.if-contradicts.false) c.requires.0 _ _
+    (rw c.in-Bytes.is at (settled (goal.at.returns-in-Bytes c).After-deliver_own-written)))

@@ -34,32 +34,40 @@ returns-then-not-is_whole c =
 pub take_messages-requires : goal.take_messages-requires
 take_messages-requires c =
     let a = c.args in
-    let m = reported-so _ _ _ (sym c.in-Messages.is ∙ c.report_of-reported.ensures) in
-    ((hang (goal.at.take_messages-requires c).After-report_of-reported).0, (hang (goal.at.take_messages-requires c).After-report_of-reported).1, fills-so a.kept a.area.now a.datagram.now a.out.now (hang (goal.at.take_messages-requires c).After-report_of-reported).0 (hang (goal.at.take_messages-requires c).After-report_of-reported).1 (bytes (goal.at.take_messages-requires c).After-report_of-reported) _ _ _ m)
+    let heard = (goal.at.take_messages-requires c).After-report_of-reported in
+    let m = reported-so _ _ _ (sym c.in-Messages.is ∙ c.report_of-reported.ensures) in (
+      (hang heard).0,
+      (hang heard).1,
+      fills-so a.kept a.area.now a.datagram.now a.out.now (hang heard).0 (hang heard).1 (bytes heard) _ _ _ m,
+    )
 
 pub returns-in-Refused : goal.returns-in-Refused
 returns-in-Refused c =
     let a = c.args in
-    answers-refusal a.kept a.area.now a.datagram.now a.out.now (hang (goal.at.returns-in-Refused c).After-report_of-reported).0 (hang (goal.at.returns-in-Refused c).After-report_of-reported).1 _
+    let heard = (goal.at.returns-in-Refused c).After-report_of-reported in
+    answers-refusal a.kept a.area.now a.datagram.now a.out.now (hang heard).0 (hang heard).1 _
     (reported-so _ _ _ (sym c.in-Refused.is ∙ c.report_of-reported.ensures))
 
 pub returns-in-Messages : goal.returns-in-Messages
 returns-in-Messages c =
     let a = c.args in
+    let heard = (goal.at.returns-in-Messages c).After-report_of-reported in
     let m = reported-so _ _ _ (sym c.in-Messages.is ∙ c.report_of-reported.ensures) in
-    answers-messages a.kept a.area.now a.datagram.now a.out.now (hang (goal.at.returns-in-Messages c).After-report_of-reported).0 (hang (goal.at.returns-in-Messages c).After-report_of-reported).1 (bytes (goal.at.returns-in-Messages c).After-report_of-reported) _ _ _ m _ _ _
+    answers-messages a.kept a.area.now a.datagram.now a.out.now (hang heard).0 (hang heard).1 (bytes heard) _ _ _ m _ _ _
     c.take_messages.ensures
 
 pub returns-in-News : goal.returns-in-News
 returns-in-News c =
     let a = c.args in
+    let heard = (goal.at.returns-in-News c).After-report_of-reported in
     let m = reported-so _ _ _ (sym c.in-News.is ∙ c.report_of-reported.ensures) in
-    answers-none a.kept a.area.now a.datagram.now a.out.now (hang (goal.at.returns-in-News c).After-report_of-reported).0 (hang (goal.at.returns-in-News c).After-report_of-reported).1 (news _) m refl (λ k. refl) _
+    answers-none a.kept a.area.now a.datagram.now a.out.now (hang heard).0 (hang heard).1 (news _) m refl (λ k. refl) _
     c.pass.ensures
 
 pub returns-in-End : goal.returns-in-End
 returns-in-End c =
     let a = c.args in
+    let heard = (goal.at.returns-in-End c).After-report_of-reported in
     let m = reported-so _ _ _ (sym c.in-End.is ∙ c.report_of-reported.ensures) in
-    answers-none a.kept a.area.now a.datagram.now a.out.now (hang (goal.at.returns-in-End c).After-report_of-reported).0 (hang (goal.at.returns-in-End c).After-report_of-reported).1 (end _) m refl (λ k. refl) _
+    answers-none a.kept a.area.now a.datagram.now a.out.now (hang heard).0 (hang heard).1 (end _) m refl (λ k. refl) _
     c.pass-in-End.ensures

@@ -24,14 +24,20 @@ returns-then-get2-gt-LONGEST c =
 pub loop-slot-preserved-else-get2-gt-LONGEST : goal.loop-slot-preserved-else-get2-gt-LONGEST
 loop-slot-preserved-else-get2-gt-LONGEST c =
     let a = c.args in
-    let p = short-fits a.held a.area.now (c.loop-slot.slot - 1) (omega (arith, c.if-get2-gt-LONGEST.false, c.get2.ensures)) in
-    (omega (arith, c.loop-slot.invariant.0), c.loop-slot.invariant.1 ∙ every-step (fits a.held a.area.now) c.loop-slot.slot c.loop-slot-test.true p)
+    let p = short-fits a.held a.area.now (c.loop-slot.slot - 1) (omega (arith, c.if-get2-gt-LONGEST.false, c.get2.ensures)) in (
+      omega (arith, c.loop-slot.invariant.0),
+      c.loop-slot.invariant.1
+          ∙ every-step (fits a.held a.area.now) c.loop-slot.slot c.loop-slot-test.true p,
+    )
 
 pub loop-slot-preserved : goal.loop-slot-preserved
 loop-slot-preserved c =
     let a = c.args in
-    let p = free-fits a.held a.area.now (c.loop-slot.slot - 1) (sym c.is_full.ensures ∙ c.if-is_full.false) in
-    (omega (arith, c.loop-slot.invariant.0), c.loop-slot.invariant.1 ∙ every-step (fits a.held a.area.now) c.loop-slot.slot c.loop-slot-test.true p)
+    let p = free-fits a.held a.area.now (c.loop-slot.slot - 1) (sym c.is_full.ensures ∙ c.if-is_full.false) in (
+      omega (arith, c.loop-slot.invariant.0),
+      c.loop-slot.invariant.1
+          ∙ every-step (fits a.held a.area.now) c.loop-slot.slot c.loop-slot-test.true p,
+    )
 
 pub returns : goal.returns
 returns c =

@@ -21,7 +21,8 @@ states : (c : After-get2) → let a = c.args in
     (c.get2.result ≡ stated (slot_at a.area.now (slot_of m))) × (c.get2.result ≤ longest)
 states c =
     let a = c.args in
-    next-states a.area.now a.number a.messages c.loop-left.left c.loop-left.slot _ c.requires.0 c.loop-left-test.true c.loop-left.invariant.0
+    next-states a.area.now a.number a.messages c.loop-left.left c.loop-left.slot _ c.requires.0 c.loop-left-test.true
+    c.loop-left.invariant.0
     c.loop-left.invariant.2 c.get2.ensures
 
 sized : (c : After-get2) → let a = c.args in
@@ -46,8 +47,11 @@ get2-requires c = omega (arith, c.loop-left.invariant.1, c.requires.0.long)
 
 pub copy-requires : goal.copy-requires
 copy-requires c =
-    let s = states (goal.at.copy-requires c).After-get2 in
-    (omega (arith, sized (goal.at.copy-requires c).After-get2, s.0, c.loop-left.invariant.3, c.loop-left.invariant.4), omega (arith, s.1, c.loop-left.invariant.1, c.requires.0.long))
+    let s = states (goal.at.copy-requires c).After-get2 in (
+      omega (arith, sized (goal.at.copy-requires c).After-get2, s.0, c.loop-left.invariant.3, c.loop-left.invariant.4),
+      omega
+          (arith, s.1, c.loop-left.invariant.1, c.requires.0.long),
+    )
 
 pub overflow_add-to : goal.overflow_add-to
 overflow_add-to c =
@@ -59,11 +63,13 @@ loop-left-preserved c =
     let m = a.number + (a.messages - c.loop-left.left) in
     let k = moved a.number a.messages c.loop-left.left c.loop-left-test.true c.loop-left.invariant.0 in
     let s = states (goal.at.loop-left-preserved c).After-get2 in
-    let p = lay_step c.loop-left.left a.area.now (bytes (goal.at.loop-left-preserved c).After-get2) m c.loop-left-test.true c.requires.0.long (rw s.0 at s.1) c.loop-left.out c.loop-left.to in (
+    let p = lay_step c.loop-left.left a.area.now (bytes (goal.at.loop-left-preserved c).After-get2) m c.loop-left-test.true
+    c.requires.0.long (rw s.0 at s.1) c.loop-left.out c.loop-left.to in (
       omega (arith, c.loop-left.invariant.0),
       c.after-slot.ensures.1,
       c.after-slot.ensures.0 ∙ ap (λ (i : ℕ). (i + 1) % 32) c.loop-left.invariant.2 ∙ slot_next m ∙ ap slot_of (sym k),
-      ap length c.copy.ensures ∙ length-sets c.loop-left.out c.loop-left.to (take (2 + c.get2.result) (drop (1472 * c.loop-left.slot) a.area.now)) ∙ c.loop-left.invariant.3,
+      ap length c.copy.ensures ∙ length-sets c.loop-left.out c.loop-left.to
+          (take (2 + c.get2.result) (drop (1472 * c.loop-left.slot) a.area.now)) ∙ c.loop-left.invariant.3,
       rw k (omega (arith, sized (goal.at.loop-left-preserved c).After-get2, c.loop-left.invariant.4)),
       c.loop-left.invariant.5 ∙ rw (k, c.copy.ensures, c.loop-left.invariant.2, s.0) p,
     )
@@ -71,4 +77,5 @@ loop-left-preserved c =
 pub returns : goal.returns
 returns c =
     let a = c.args in
-    sym (c.loop-left.invariant.5 ∙ lay-ended c.loop-left.left a.area.now (a.number + (a.messages - c.loop-left.left)) c.loop-left-test.false c.loop-left.out c.loop-left.to)
+    sym (c.loop-left.invariant.5 ∙ lay-ended c.loop-left.left a.area.now (a.number + (a.messages - c.loop-left.left)) c.loop-left-test.false
+    c.loop-left.out c.loop-left.to)

@@ -11,7 +11,8 @@ abbrev pub invariant-loop-left : goal.invariant-loop-left
 invariant-loop-left l =
     (l.left ≤ l.messages) × (l.slot < 32) × (l.slot ≡ slot_of (l.number + (l.messages - l.left))) × (length l.out ≡ length l.initial.out)
     × (l.to + length (frames (held_from l.left l.area (l.number + (l.messages - l.left)))) ≤ length l.initial.out)
-    × (sets l.initial.out l.at (frames (held_from l.messages l.area l.number)) ≡ sets l.out l.to (frames (held_from l.left l.area (l.number + (l.messages - l.left)))))
+    × (sets l.initial.out l.at (frames (held_from l.messages l.area l.number))
+    ≡ sets l.out l.to (frames (held_from l.left l.area (l.number + (l.messages - l.left)))))
 
 abbrev pub decreases-loop-left : goal.decreases-loop-left
 decreases-loop-left l = l.left

@@ -24,7 +24,8 @@ returns-then-out-at c =
 pub returns-then-held-eq0 : goal.returns-then-held-eq0
 returns-then-held-eq0 c =
     let a = c.args in
-    nothing-goes a.held a.area.now a.number a.at a.out.now (sound-so (goal.at.returns-then-held-eq0 c).Else-not-is_sound) c.if-held-eq0.true c.if-out-at.false
+    nothing-goes a.held a.area.now a.number a.at a.out.now (sound-so (goal.at.returns-then-held-eq0 c).Else-not-is_sound) c.if-held-eq0.true
+    c.if-out-at.false
 
 pub size-bytes-requires : goal.size-bytes-requires
 size-bytes-requires c =
@@ -34,7 +35,8 @@ size-bytes-requires c =
 pub returns-then-out-at-2 : goal.returns-then-out-at-2
 returns-then-out-at-2 c =
     let a = c.args in
-    too-little a.held a.area.now a.number a.at a.out.now (sound-so (goal.at.returns-then-out-at-2 c).Else-not-is_sound) c.run-messages.result c.run-messages.ensures.0
+    too-little a.held a.area.now a.number a.at a.out.now (sound-so (goal.at.returns-then-out-at-2 c).Else-not-is_sound)
+    c.run-messages.result c.run-messages.ensures.0
     (omega (arith, c.if-out-at-2.true, c.if-out-at.false, c.size-bytes.ensures))
 
 pub lay-requires : goal.lay-requires
@@ -47,5 +49,6 @@ lay-requires c =
 pub returns : goal.returns
 returns c =
     let a = c.args in
-    lets_go a.held a.area.now a.number a.at a.out.now (sound-so (goal.at.returns c).Else-not-is_sound) c.run-messages.result c.run-messages.ensures.0 _ _
+    lets_go a.held a.area.now a.number a.at a.out.now (sound-so (goal.at.returns c).Else-not-is_sound) c.run-messages.result
+    c.run-messages.ensures.0 _ _
     c.size-bytes.ensures (omega (arith, c.if-out-at-2.false, c.if-out-at.false)) c.lay.ensures

@@ -40,7 +40,8 @@ loop-left-preserved c =
     let m = a.number + (a.messages - c.loop-left.left) in
     let k = moved a.number a.messages c.loop-left.left c.loop-left-test.true c.loop-left.invariant.0 in
     let s = states (goal.at.loop-left-preserved c).After-get2 in
-    let z = size_step c.loop-left.left a.area.now (bytes (goal.at.loop-left-preserved c).After-get2) m c.loop-left-test.true c.requires.long (rw s.0 at s.1) in (
+    let z = size_step c.loop-left.left a.area.now (bytes (goal.at.loop-left-preserved c).After-get2) m c.loop-left-test.true c.requires.long
+    (rw s.0 at s.1) in (
       omega (arith, c.loop-left.invariant.0),
       c.after-slot.ensures.1,
       c.after-slot.ensures.0 ∙ ap (λ (i : ℕ). (i + 1) % 32) c.loop-left.invariant.2 ∙ slot_next m ∙ ap slot_of (sym k),
@@ -51,4 +52,5 @@ loop-left-preserved c =
 pub returns : goal.returns
 returns c =
     let a = c.args in
-    sym (c.loop-left.invariant.4 ∙ omega (arith, size-ended c.loop-left.left a.area.now (a.number + (a.messages - c.loop-left.left)) c.loop-left-test.false))
+    sym (c.loop-left.invariant.4
+    ∙ omega (arith, size-ended c.loop-left.left a.area.now (a.number + (a.messages - c.loop-left.left)) c.loop-left-test.false))

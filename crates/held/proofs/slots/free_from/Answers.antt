@@ -29,10 +29,12 @@ loop-left-preserved c =
       omega (arith, c.loop-left.invariant.0),
       c.after-slot.ensures.1,
       c.after-slot.ensures.0 ∙ ap (λ (i : ℕ). (i + 1) % 32) c.loop-left.invariant.2 ∙ slot_next m ∙ ap slot_of (sym k),
-      c.loop-left.invariant.3 ∙ freed-step c.loop-left.left c.loop-left.kept m c.loop-left-test.true ∙ rw (k, c.free-kept.ensures, c.loop-left.invariant.2),
+      c.loop-left.invariant.3 ∙ freed-step c.loop-left.left c.loop-left.kept m c.loop-left-test.true
+          ∙ rw (k, c.free-kept.ensures, c.loop-left.invariant.2),
     )
 
 pub returns : goal.returns
 returns c =
     let a = c.args in
-    sym (c.loop-left.invariant.3 ∙ rw (none_left c.loop-left.left c.loop-left-test.false) (freed-ended c.loop-left.kept (a.number + (a.count - 0))))
+    sym (c.loop-left.invariant.3
+    ∙ rw (none_left c.loop-left.left c.loop-left-test.false) (freed-ended c.loop-left.kept (a.number + (a.count - 0))))

@@ -34,12 +34,18 @@ returns-then-d-place c = search tests
 
 pub returns-then-not-exactly : goal.returns-then-not-exactly
 unfolding read_messages
-returns-then-not-exactly c = rw (whole (goal.at.returns-then-not-exactly c).After-exactly, not-true c.exactly.result c.if-not-exactly.true-raw) (search tests)
+returns-then-not-exactly c = rw
+    (whole (goal.at.returns-then-not-exactly c).After-exactly, not-true c.exactly.result c.if-not-exactly.true-raw) (search tests)
 
 pub returns-then-first-eq0 : goal.returns-then-first-eq0
 unfolding read_messages
 returns-then-first-eq0 c =
-    rw (whole (goal.at.returns-then-first-eq0 c).After-exactly, not-false c.exactly.result c.if-not-exactly.false-raw, ← c.get8-first.ensures) (search tests)
+    rw (
+      whole (goal.at.returns-then-first-eq0 c).After-exactly,
+      not-false c.exactly.result c.if-not-exactly.false-raw,
+      ←
+          c.get8-first.ensures,
+    ) (search tests)
 
 pub returns-then-count-eq0 : goal.returns-then-count-eq0
 unfolding read_messages

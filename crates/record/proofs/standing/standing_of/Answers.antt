@@ -21,7 +21,13 @@ returns-then-not-hangs_together c = rw (failed c.hangs_together.ensures c.if-not
 pub returns-then-next-top : goal.returns-then-next-top
 unfolding standing
 returns-then-next-top c =
-    rw (hung (goal.at.returns-then-next-top c).Else-not-hangs_together, le-leb _ _ c.if-next-top.true, ← c.count-ranges.ensures, ← c.at-range.ensures)
+    rw (
+      hung (goal.at.returns-then-next-top c).Else-not-hangs_together,
+      le-leb _ _ c.if-next-top.true,
+      ← c.count-ranges.ensures,
+      ←
+          c.at-range.ensures,
+    )
 
 pub returns-then-kept : goal.returns-then-kept
 unfolding standing

@@ -25,7 +25,8 @@ fits-so : (c : In-Messages) → let a = c.args in
 fits-so c =
     let a = c.args in
     let own = length a.datagram.now - c.in-At.from in
-    let-fits a.held a.area.now a.number own a.out.now c.in-Messages.messages c.in-Messages.bytes _ (rw c.in-Messages.is at c.release-given.ensures)
+    let-fits a.held a.area.now a.number own a.out.now c.in-Messages.messages c.in-Messages.bytes _
+    (rw c.in-Messages.is at c.release-given.ensures)
 
 pub overflow_sub-own : goal.overflow_sub-own
 overflow_sub-own c = (place-so c).1

@@ -53,7 +53,8 @@ returns-in-Refused c =
     let a = c.args in
     let m = missed a.datagram.now c.loop-left.at _ (sym c.next.ensures ∙ c.in-Refused.is) in
     let h : Holding = record { held = c.loop-left.kept; area = c.loop-left.area } in
-    let u = tried a.datagram.now a.next h c.loop-left.number c.loop-left.at c.loop-left.left c.loop-left-test.true c.loop-left.invariant.3 in
+    let u = tried a.datagram.now a.next h c.loop-left.number c.loop-left.at c.loop-left.left c.loop-left-test.true c.loop-left.invariant.3
+    in
     absurd (omega (arith, m.1, u.inside))
 
 pub shape_of-area : goal.shape_of-area
@@ -63,5 +64,6 @@ pub returns : goal.returns
 returns c =
     let a = c.args in
     let h : Holding = record { held = c.loop-left.kept; area = c.loop-left.area } in
-    rw (c.loop-left.invariant.4 ∙ none_tried a.datagram.now a.next h c.loop-left.number c.loop-left.at c.loop-left.left c.loop-left-test.false c.loop-left.invariant.3)
+    rw (c.loop-left.invariant.4 ∙ none_tried a.datagram.now a.next h c.loop-left.number c.loop-left.at c.loop-left.left
+    c.loop-left-test.false c.loop-left.invariant.3)
     (record { bitmap = refl; bytes = refl })

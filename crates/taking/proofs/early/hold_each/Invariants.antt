@@ -9,7 +9,8 @@ use Rattle.taking.proofs.early.hold_each.Given as goal
 
 abbrev pub invariant-loop-left : goal.invariant-loop-left
 invariant-loop-left l =
-    (l.left ≤ l.count) × (l.number ≡ l.first + (l.count - l.left)) × (length l.area ≡ length l.initial.area) × (fills l.datagram l.at l.left ≡ true)
+    (l.left ≤ l.count) × (l.number ≡ l.first + (l.count - l.left)) × (length l.area ≡ length l.initial.area) ×
+    (fills l.datagram l.at l.left ≡ true)
     × (hold_all l.next (record { held = l.held; area = l.initial.area }) l.first (blocks_from l.datagram l.place l.count)
     ≡ hold_all l.next (record { held = l.kept; area = l.area }) l.number (blocks_from l.datagram l.at l.left))
 
