@@ -28,7 +28,7 @@ request_of r =
     let range = missing_of r at 0 in
     request range.first.0 (min (range.last.0 - range.first.0 + 1) 65535) (asked_now r)
 
--- late: the rule has a wait, and elapsed is at least that wait; Asks.asks-nothing, asks-now and asks-later are the three ways
+-- late: the rule has a wait, and elapsed is at least that wait; Asks.asks_nothing, asks-now and asks-later are the three ways
 unfoldable pub wish : Record → Bool → Wish
 wish r late =
     if not (lacks r) then nothing else

@@ -82,7 +82,7 @@ flat_range (gives.Refused n) = record { refusal = n; first = 0; last = 0 }
 flat_range (gives.Range r) = record { refusal = 0; first = r.first.0; last = r.last.0 }
 
 -- the entries: a style or flag that is none is 10, before all else; what they say of a record: Complete.complete-exactly-if and
--- Ranges.one-by-one
+-- Ranges.one_by_one
 abbrev pub take_verdict : FlatRecord → (area datagram : List ℕ) (room : ℕ) → Verdict Taking
 take_verdict given area datagram room = known_record given into λ r. taking r area datagram room
 

@@ -14,7 +14,7 @@ every (suc n) p = p n && every n p
 abbrev pub placed : (held next top d : ℕ) → Bool
 placed held next top d = not (full held (next + d)) || (1 at_most d && next + d at_most top)
 
--- a full slot stands for one of N+1 to N+31, and not for one above T; Hangs.in-place and in-place-so say it number by number
+-- a full slot stands for one of N+1 to N+31, and not for one above T; Hangs.in_place_lem and in-place-so say it number by number
 unfoldable pub in_place : (held next top : ℕ) → Bool
 in_place held next top = every 32 (placed held next top)
 

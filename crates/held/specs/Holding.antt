@@ -31,7 +31,7 @@ laid h m message = record {
 unfoldable pub hold_one : (next : ℕ) → Holding → (m : ℕ) → List ℕ → Holding
 hold_one next h m message = if holdable next h m message then laid h m message else h
 
--- messages numbered from m on; Holds.all-new: each under its own number, all-keeps: what was held stays, held-again: once
+-- messages numbered from m on; Holds.all_new: each under its own number, all-keeps: what was held stays, held-again: once
 unfoldable pub hold_all : (next : ℕ) → Holding → (m : ℕ) → List (List ℕ) → Holding
 hold_all next h m [] = h
 hold_all next h m (message ∷ messages) = hold_all next (hold_one next h m message) (suc m) messages

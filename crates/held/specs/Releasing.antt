@@ -14,7 +14,7 @@ unfoldable pub run : ℕ → (held m : ℕ) → ℕ
 run zero held m = 0
 run (suc n) held m = if full held m then suc (run n held (suc m)) else 0
 
--- the k messages held from number m on; Releases.held-at: the one at place j is number m + j
+-- the k messages held from number m on; Releases.held_at: the one at place j is number m + j
 unfoldable pub held_from : ℕ → List ℕ → (m : ℕ) → List (List ℕ)
 held_from zero area m = []
 held_from (suc k) area m = held_message area m ∷ held_from k area (suc m)

@@ -19,7 +19,7 @@ area_size = 47104
 abbrev pub longest : ℕ
 longest = 1470
 
--- message m has slot m mod 32; Bitmap.slots-apart: messages fewer than 32 apart have slots apart
+-- message m has slot m mod 32; Bitmap.slots_apart: messages fewer than 32 apart have slots apart
 abbrev pub slot_of : ℕ → ℕ
 slot_of m = m % 32
 
