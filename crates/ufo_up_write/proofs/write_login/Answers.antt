@@ -2,8 +2,8 @@
 -- after the user (`passed`); then the room decides, and the fields stored one after the other are the block.
 use Prim.Native.Nat.{ℕ}
 use mathlib.Core.List.{[], ◌∷◌}
-use mathlib.Core.Path.{◌≡◌, refl, ◌∙◌}
-use mathlib.Core.Bool.{not}
+use mathlib.Core.Path.{◌≡◌, refl, sym, ◌∙◌}
+use mathlib.Core.Bool.{false, not}
 use native.Mathlib.Omega.{arith}
 use lib.ListN.{length}
 use Rattle.wire.specs.Fields.{bytes_of}
@@ -22,7 +22,7 @@ use Rattle.ufo_up_write.specs.WriteUp.{reply}
 use Rattle.ufo_up.proofs.UpExactOne.{left_l}
 use Rattle.ufo_up_write.proofs.UpReplies.{reply-login}
 use Rattle.ufo_up_write.proofs.UpLaid.{laid-login}
-use Rattle.ufo_up_write.proofs.write_login.Goals.{Else-is_blank_user, Else-not-is_name_then_spaces-2}
+use Rattle.ufo_up_write.proofs.write_login.Goals.{Else-not-is_name_then_spaces-2}
 use Rattle.ufo_up_write.proofs.write_login.Goals as goal
 
 -- the message that is written
@@ -45,6 +45,10 @@ module _ (user : User) (password session : Name) (room : ℕ) where
   abbrev Padded : Type 0
   Padded = reply lent room ≡ checked ((not (blank (user_bytes user)) else 6) ∷ []) (within room (frame (write_message lent)))
 
+  -- and once the user is not blank, the room decides
+  passed : blank (user_bytes user) ≡ false → Padded → reply lent room ≡ within room (frame (write_message lent))
+  passed b p = p ∙ rw b
+
 padded : (c : Else-not-is_name_then_spaces-2) → Padded c.args.user c.args.password.0 c.args.session (length c.args.out.now)
 padded c =
     let a = c.args in
@@ -53,13 +57,6 @@ padded c =
       held c.is_name_then_spaces.ensures c.if-not-is_name_then_spaces.false-raw,
       held c.is_name_then_spaces-2.ensures c.if-not-is_name_then_spaces-2.false-raw,
     )
-
--- and then the room decides
-passed : (c : Else-is_blank_user) → let a = c.args in
-    Padded a.user a.password.0 a.session (length a.out.now)
-    → reply (message a.user a.password.0 a.session) (length a.out.now)
-    ≡ within (length a.out.now) (frame (write_message (message a.user a.password.0 a.session)))
-passed c p = p ∙ rw (← c.is_blank_user.ensures, c.if-is_blank_user.false)
 
 pub returns-then-not-is_user_then_spaces : goal.returns-then-not-is_user_then_spaces
 returns-then-not-is_user_then_spaces c =
@@ -90,15 +87,19 @@ returns-then-is_blank_user c = refuses _ _ 6 (padded (goal.at.returns-then-is_bl
 pub returns-then-out-lt29 : goal.returns-then-out-lt29
 unfolding bytes_of
 returns-then-out-lt29 c =
-    refuses _ _ 9 (passed (goal.at.returns-then-out-lt29 c).Else-is_blank_user
-    (padded (goal.at.returns-then-out-lt29 c).Else-not-is_name_then_spaces-2) ∙ search tests)
+    let a = c.args in
+    let at = goal.at.returns-then-out-lt29 c in
+    let b = sym c.is_blank_user.ensures ∙ c.if-is_blank_user.false in
+    refuses _ _ 9 (passed a.user a.password.0 a.session (length a.out.now) b (padded at.Else-not-is_name_then_spaces-2) ∙ search tests)
 
 pub returns : goal.returns
 unfolding bytes_of
 returns c =
     let a = c.args in
+    let at = goal.at.returns c in
+    let named = sym c.is_blank_user.ensures ∙ c.if-is_blank_user.false in
     writes _ _ (frame (write_message (message a.user a.password.0 a.session))) _ 29
-    (passed (goal.at.returns c).Else-is_blank_user (padded (goal.at.returns c).Else-not-is_name_then_spaces-2) ∙ search tests) refl
+    (passed a.user a.password.0 a.session (length a.out.now) named (padded at.Else-not-is_name_then_spaces-2) ∙ search tests) refl
     (omega arith)
     (rw (c.put_name-2.ensures, c.put_name.ensures, c.put_user.ensures, c.put_head.ensures)
     (laid-login a.out.now a.user a.password.0 a.session))

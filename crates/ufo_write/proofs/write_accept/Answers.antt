@@ -87,5 +87,5 @@ unfolding bytes_of
 returns c =
     let a = c.args in
     let n = named (goal.at.returns c).Else-is_blank_name in
-    let f = fits a.session a.next.0 (length a.out.now) n c.if-number-eq0.false c.if-number-gt-HIGHEST.false in
-    has_room _ (packet a.session a.next.0) a.out.now f _ 15 refl c.if-out-lt15.false (rw (c.put4.ensures, c.put_name.ensures))
+    let r = fits a.session a.next.0 (length a.out.now) n c.if-number-eq0.false c.if-number-gt-HIGHEST.false in
+    has_room _ (packet a.session a.next.0) a.out.now r _ 15 refl c.if-out-lt15.false (rw (c.put4.ensures, c.put_name.ensures))
