@@ -10,6 +10,7 @@ use borrow.Author.Tests.{le-leb, lt-leb, leb-true, eq-eqb, ne_eqb}
 use lib.Dec.{leb}
 use lib.Ieee.{Float}
 use Rattle.wire.specs.Checks.{◌is◌, taken, ◌else◌, ◌into◌}
+use Rattle.wire.specs.declared.refusal.Refusal.TheVariants.{Broken}
 use Rattle.wire.proofs.Tests.{by-test, impossible}
 use Rattle.wire.proofs.Checks.{all-passed, went}
 use Rattle.clock.specs.Patience.{wait_over}
@@ -51,7 +52,7 @@ module _ (r : Record) (s : Sheet) (p : Patience) (elapsed : Float) where
       → Requests r first count after
   unfolding asking request_of
   requests first count after e =
-      let c = all-passed ((hangs r else 10) ∷ []) (wait_over s p elapsed into λ late. taken (wish r late)) (request first count after) e in
+      let c = all-passed ((hangs r else Broken) ∷ []) (wait_over s p elapsed into λ late. taken (wish r late)) (request first count after) e in
       let w = went (wait_over s p elapsed) (λ late. taken (wish r late)) (request first count after) c.1 in
       let q : wish r w.by ≡ request first count after = cc w.gave in
       let k = wishes r w.by first count after q in

@@ -2,6 +2,7 @@
 -- Assumes nothing.
 use Rattle.std.specs.Prelude.{ℕ, ◌+◌, ◌-◌, min, [], ◌∷◌, Bool, not, ◌||◌, Float, if◌then◌else◌}
 use Rattle.wire.specs.Checks.{◌is◌, Verdict, refused, taken, ◌else◌, checked, ◌into◌}
+use Rattle.wire.specs.declared.refusal.Refusal.TheVariants.{Broken}
 use Rattle.clock.specs.Patience.{wait_over}
 use Rattle.clock.specs.declared.sheet.Sheet.{Sheet}
 use Rattle.clock.specs.declared.patience.Patience.{Patience}
@@ -37,7 +38,7 @@ wish r late =
 
 unfoldable pub asking : Record → Sheet → Patience → Float → Verdict Wish
 asking r s p elapsed =
-    checked ((hangs r else 10) ∷ []) (wait_over s p elapsed into λ late. taken (wish r late))
+    checked ((hangs r else Broken) ∷ []) (wait_over s p elapsed into λ late. taken (wish r late))
 
 abbrev pub asked_of : Verdict Wish → Asked
 asked_of (refused n) = asks.Refused n

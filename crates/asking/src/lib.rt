@@ -12,14 +12,14 @@ use clock::sheet::Sheet;
 use record::Record;
 use record::hangs::hangs_together;
 use wire::kinds::Sequence;
-use wire::refusal;
+use wire::refusal::Refusal;
 
 // The most messages that a request can name: its count has two bytes.
 const MOST: u16 = 65535;
 
 #[derive(Clone, Copy)]
 pub enum Asked {
-    Refused(u8),
+    Refused(Refusal),
     // Nothing is missing.
     Nothing,
     // It was asked for, and the wait is not over.
@@ -78,7 +78,7 @@ pub fn ask(kept: Record, sheet: Sheet, rule: Patience, elapsed: f64) -> Asked
     ensures { result ≡ asked_of (asking kept sheet rule elapsed) }
 {
     if !hangs_together(kept) {
-        return Asked::Refused(refusal::BROKEN);
+        return Asked::Refused(Refusal::Broken);
     }
     let said = patience::wait_over(sheet, rule, elapsed);
     match said {

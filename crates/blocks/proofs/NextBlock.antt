@@ -11,6 +11,7 @@ use lib.ListN.{length, drop, length-drop}
 use lib.Seq.{drop-drop}
 use lib.Dec.{leb, eqb}
 use Rattle.wire.specs.Checks.{refused, taken}
+use Rattle.wire.specs.declared.refusal.Refusal.TheVariants.{Framing}
 use Rattle.wire.proofs.Tests.{by-test, impossible}
 use Rattle.blocks.specs.Blocks.{stated, there, first, rest, Cut, torn, whole, before, cut, cut_full, upstream, is_whole, count_of, end_at}
 use Rattle.blocks.specs.Blocks.{block_at, fills, place_after}
@@ -24,7 +25,7 @@ whole_before m (whole ms) = refl
 
 -- how many blocks, after k that were counted before
 abbrev pub tally : ℕ → Cut → Count
-tally k torn = count.Refused 4
+tally k torn = count.Refused Framing
 tally k (whole ms) = count.Blocks (k + length ms)
 
 tally-before : (k : ℕ) (m : List ℕ) (q : Cut) → tally k (before m q) ≡ tally (k + 1) q
@@ -53,7 +54,7 @@ module _ (s : List ℕ) (p : ℕ) where
   block_in : end_at s p ≤ length s → block_at s p ≡ block.At (p + 2) (stated (drop p s)) (end_at s p)
   block_in h = simp (le-leb (end_at s p) (length s) h)
 
-  pub block-over : length s < end_at s p → block_at s p ≡ block.Refused 4
+  pub block-over : length s < end_at s p → block_at s p ≡ block.Refused Framing
   block-over h = simp (lt-leb (end_at s p) (length s) h)
 
   pub block-fits : (l n : ℕ) → l ≡ stated (drop p s) → n ≡ end_at s p → n ≤ length s → block_at s p ≡ block.At (p + 2) l n
@@ -110,7 +111,7 @@ module _ (s : List ℕ) (p : ℕ) where
   unfolding place_after
   place-step k h = rw (le-leb (end_at s p) (length s) h)
 
-  pub place-torn : (k : ℕ) → length s < end_at s p → place_after (suc k) s p ≡ refused 4
+  pub place-torn : (k : ℕ) → length s < end_at s p → place_after (suc k) s p ≡ refused Framing
   unfolding place_after
   place-torn k h = rw (lt-leb (end_at s p) (length s) h)
 
@@ -118,7 +119,7 @@ module _ (s : List ℕ) (p : ℕ) where
   unfolding place_after
   place_here h = rw (le-leb p (length s) h)
 
-  pub place-past : length s < p → place_after 0 s p ≡ refused 4
+  pub place-past : length s < p → place_after 0 s p ≡ refused Framing
   unfolding place_after
   place-past h = rw (lt-leb p (length s) h)
 
@@ -144,11 +145,11 @@ module _ (s : List ℕ) (p : ℕ) where
         )
         (tally-before k (first (drop p s)) (cut_full (suc (length (drop (end_at s p) s))) (drop (end_at s p) s)))
 
-    pub tally-torn : p < length s → length s < end_at s p → tally k up_from ≡ count.Refused 4
+    pub tally-torn : p < length s → length s < end_at s p → tally k up_from ≡ count.Refused Framing
     unfolding cut_full
     tally-torn q h = rw (ne_eqb (length (drop p s)) 0 (λ e. omega (arith, rw length-drop at e)), not_there h)
 
-    pub tally-empty : end_at s p ≤ length s → stated (drop p s) ≡ 0 → tally k up_from ≡ count.Refused 4
+    pub tally-empty : end_at s p ≤ length s → stated (drop p s) ≡ 0 → tally k up_from ≡ count.Refused Framing
     unfolding cut_full
     tally-empty h z =
         rw (ne_eqb (length (drop p s)) 0 (λ e. omega (arith, rw length-drop at e)), is-there h, eq-eqb (stated (drop p s)) 0 z)
@@ -164,5 +165,5 @@ count-some s h = rw (ne_eqb (length s) 0 (λ e. omega arith)) (same (cut_full (s
   same torn = refl
   same (whole ms) = ap count.Blocks (sym (zero-add (length ms)))
 
-pub count_none : (s : List ℕ) → length s ≡ 0 → count_of (upstream s) ≡ count.Refused 4
+pub count_none : (s : List ℕ) → length s ≡ 0 → count_of (upstream s) ≡ count.Refused Framing
 count_none s h = rw (eq-eqb (length s) 0 h)

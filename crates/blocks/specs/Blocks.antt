@@ -4,6 +4,7 @@ use Rattle.std.specs.Prelude.{ℕ, zero, suc, ◌+◌, ◌^◌, ◌<◌, List, [
 use Rattle.std.specs.Prelude.{if◌then◌else◌}
 use Rattle.wire.specs.Fields.{be, bytes_of}
 use Rattle.wire.specs.Checks.{◌is◌, ◌at_most◌, Verdict, refused, taken}
+use Rattle.wire.specs.declared.refusal.Refusal.TheVariants.{Framing}
 use Rattle.blocks.specs.declared.Block.{Block}
 use Rattle.blocks.specs.declared.Block.TheVariants as block
 use Rattle.blocks.specs.declared.Place.{Place}
@@ -74,7 +75,7 @@ messages_of (whole ms) = ms
 
 -- how many, or 4
 abbrev pub count_of : Cut → Count
-count_of torn = count.Refused 4
+count_of torn = count.Refused Framing
 count_of (whole ms) = count.Blocks (length ms)
 
 -- the place where the block at p ends
@@ -86,7 +87,7 @@ abbrev pub block_at : List ℕ → ℕ → Block
 block_at s p =
     if end_at s p at_most length s
     then block.At (p + 2) (stated (drop p s)) (end_at s p)
-    else block.Refused 4
+    else block.Refused Framing
 
 -- exactly n blocks stand from p to the very end; that is, the place after n of them is the end (`Filling.fills-by-place`)
 abbrev pub fills : List ℕ → ℕ → ℕ → Bool
@@ -94,8 +95,8 @@ fills s p n = p at_most length s && is_whole (cut n (drop p s))
 
 -- the place after k blocks from p on, if they are there; what follows it is the other blocks (`Skipping.skipped`)
 unfoldable pub place_after : ℕ → List ℕ → ℕ → Verdict ℕ
-place_after zero s p = if p at_most length s then taken p else refused 4
-place_after (suc k) s p = if end_at s p at_most length s then place_after k s (end_at s p) else refused 4
+place_after zero s p = if p at_most length s then taken p else refused Framing
+place_after (suc k) s p = if end_at s p at_most length s then place_after k s (end_at s p) else refused Framing
 
 abbrev pub place_of : Verdict ℕ → Place
 place_of (refused n) = place.Refused n

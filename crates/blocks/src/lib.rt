@@ -4,12 +4,13 @@
 ghost use Rattle.std.specs.Prelude.{◌≡◌};
 ghost use Rattle.blocks.specs.Blocks.{block_at, fills, upstream, count_of, place_of, place_after};
 
-use wire::{fields, refusal};
+use wire::refusal::Refusal;
+use wire::fields;
 
 // The block that stands at a place: where its data begins, how long that is, and the place after it.
 #[derive(Clone, Copy)]
 pub enum Block {
-    Refused(u8),
+    Refused(Refusal),
     At {
         start: usize,
         length: usize,
@@ -20,14 +21,14 @@ pub enum Block {
 // A place between blocks.
 #[derive(Clone, Copy)]
 pub enum Place {
-    Refused(u8),
+    Refused(Refusal),
     At(usize),
 }
 
 // How many blocks there are.
 #[derive(Clone, Copy)]
 pub enum Count {
-    Refused(u8),
+    Refused(Refusal),
     Blocks(usize),
 }
 
@@ -35,15 +36,15 @@ pub fn next(s: &[u8], place: usize) -> Block
     ensures { result ≡ block_at s.now place }
 {
     if s.len() < 2 {
-        return Block::Refused(refusal::FRAMING);
+        return Block::Refused(Refusal::Framing);
     }
     if s.len() - 2 < place {
-        return Block::Refused(refusal::FRAMING);
+        return Block::Refused(Refusal::Framing);
     }
     let length = fields::get2(s, place) as usize;
     let start = place + 2;
     if s.len() - start < length {
-        return Block::Refused(refusal::FRAMING);
+        return Block::Refused(Refusal::Framing);
     }
     Block::At {
         start,
@@ -66,7 +67,7 @@ pub fn count_upstream(s: &[u8]) -> Count
                 next,
             } => {
                 if length == 0 {
-                    return Count::Refused(refusal::FRAMING);
+                    return Count::Refused(Refusal::Framing);
                 }
                 at = next;
                 count += 1;
@@ -77,7 +78,7 @@ pub fn count_upstream(s: &[u8]) -> Count
         }
     }
     if count == 0 {
-        return Count::Refused(refusal::FRAMING);
+        return Count::Refused(Refusal::Framing);
     }
     Count::Blocks(count)
 }
@@ -104,7 +105,7 @@ pub fn skip(s: &[u8], place: usize, k: u64) -> Place
         }
     }
     if s.len() < at {
-        return Place::Refused(refusal::FRAMING);
+        return Place::Refused(Refusal::Framing);
     }
     Place::At(at)
 }

@@ -10,6 +10,7 @@ use lib.ListN.{length}
 use lib.Seq.{sets, length-sets}
 use Rattle.wire.specs.Fields.{be, bytes_of}
 use Rattle.wire.specs.Checks.{Verdict, refused, taken}
+use Rattle.wire.specs.declared.refusal.Refusal.TheVariants.{Contradiction}
 use Rattle.text.specs.Text.{letter_or_digit, blank, text_then_spaces}
 use Rattle.blocks.specs.Blocks.{stated, frame, frames, cut, cut_full}
 use Rattle.ufo.specs.Down.{read_s, read_e, read}
@@ -136,11 +137,11 @@ module _ (area : List ℕ) (slots : area_size ≤ length area) where
   unfolding worked-out
   hears-end = rw none_left
 
-  too_few : taking (kept 6 5 true 0) five (bytes_of 5 0x45_00000004) enough ≡ refused 12
+  too_few : taking (kept 6 5 true 0) five (bytes_of 5 0x45_00000004) enough ≡ refused Contradiction
   unfolding worked-out
   too_few = rw none_left
 
-  too_many : taking (kept 6 5 true 0) five (bytes_of 7 0x53_00000009_0000) enough ≡ refused 12
+  too_many : taking (kept 6 5 true 0) five (bytes_of 7 0x53_00000009_0000) enough ≡ refused Contradiction
   unfolding worked-out
   too_many = rw none_left
 

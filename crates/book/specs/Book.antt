@@ -3,6 +3,7 @@
 use Rattle.std.specs.Prelude.{ℕ, ◌-◌, ◌^◌, List, [], ◌∷◌, Float}
 use Rattle.wire.specs.Checks.{Verdict, refused, taken}
 use Rattle.wire.specs.Fields.{bytes_of}
+use Rattle.wire.specs.declared.refusal.Refusal.TheVariants.{Framing, Absent, Bound, Contradiction}
 use Rattle.names.specs.Names.{name_of}
 use Rattle.ufo.specs.Down.{messages, end}
 use Rattle.ufo_up.specs.Up.{request}
@@ -61,8 +62,8 @@ tale =
     ∷ line (bytes_of 12 0x53_00000005_0001_0003_4F4B21) (taken []) 3 5 (5 ∷ []) (missing ((3 to 4) ∷ []))
     ∷ line (bytes_of 20 0x53_00000002_0003_0000_0003_425559_0004_53454C4C) (taken (buy ∷ sell ∷ ok ∷ [])) 6 5 [] ongoing
     ∷ line (bytes_of 5 0x45_00000005) (taken []) 6 5 [] complete
-    ∷ line (bytes_of 5 0x45_00000004) (refused 12) 6 5 [] complete
-    ∷ line (bytes_of 7 0x53_00000009_0000) (refused 12) 6 5 [] complete
+    ∷ line (bytes_of 5 0x45_00000004) (refused Contradiction) 6 5 [] complete
+    ∷ line (bytes_of 7 0x53_00000009_0000) (refused Contradiction) 6 5 [] complete
     ∷ line (bytes_of 7 0x53_00000003_0000) (taken []) 6 5 [] complete
     ∷ []
 
@@ -97,17 +98,17 @@ samples = clock rule timings
 abbrev pub book : List Entry
 book =
     down (bytes_of 13 0x53_00000006_0002_0002_4849_0000) (taken (messages 6 (hi ∷ [] ∷ [])))
-    ∷ down (bytes_of 14 0x53_00000006_0002_0002_4849_0000_00) (refused 4)
+    ∷ down (bytes_of 14 0x53_00000006_0002_0002_4849_0000_00) (refused Framing)
     ∷ down (bytes_of 5 0x45_00000000) (taken (end 0))
     ∷ down (bytes_of 10 0x53_FFFFFFFE_0001_0001_5A) (taken (messages (2 ^ 32 - 2) (z ∷ [])))
-    ∷ down (bytes_of 10 0x53_FFFFFFFF_0001_0001_5A) (refused 7)
+    ∷ down (bytes_of 10 0x53_FFFFFFFF_0001_0001_5A) (refused Bound)
     ∷ down (bytes_of 7 0x53_FFFFFFFF_0000) (taken (messages (2 ^ 32 - 1) []))
     ∷ up (bytes_of 9 0x0007_54_00000003_0002) (taken (request 3 2 ∷ []))
     ∷ memx (bytes_of 18 0x00_12_0000000000000001_0000000000000000) (taken (broadcast.heartbeat 1 0 []))
     ∷ memx (bytes_of 25 0x02_13_0000000000000001_0000000000000006_AB_0001_0002_4849)
     (taken (broadcast.messages 1 6 (bytes_of 1 0xAB) (hi ∷ [])))
     ∷ soup (bytes_of 32 0x41_20202020202038383431_2020202020202020202020202020202020202031_0A) (taken (accept padded 1))
-    ∷ soup (bytes_of 32 0x41_20202020202038383431_2020202020202020202020202020202020202020_0A) (refused 6)
+    ∷ soup (bytes_of 32 0x41_20202020202038383431_2020202020202020202020202020202020202020_0A) (refused Absent)
     ∷ unheard s8841 ongoing
     ∷ story s8841 empty
     ∷ story (Memx (record { 0 = 1 })) headers

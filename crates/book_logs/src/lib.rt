@@ -1,13 +1,13 @@
 // The lending end: a log over lent bytes, and what goes out when its messages are asked for.
 #![tactic(auto)]
 
+use wire::refusal::Refusal;
 use book_lines::{entry, numbers, scan};
 use book_page::page;
 use lent_log::{Log, Logged};
 use std::io;
 use wire::fields;
 use wire::kinds::Sequence;
-use wire::output::Written;
 
 // A log, and how many bytes are lent to it.
 #[derive(Clone, Copy)]
@@ -79,7 +79,7 @@ fn entered(rt: &impl Print, said: Logged, shelf: Shelf) -> io::Result<Shelf> {
 }
 
 // The packet that a line asks for.
-fn packet(letter: u8, text: &[u8], log: Log, bytes: &[u8], out: &mut [u8]) -> Written {
+fn packet(letter: u8, text: &[u8], log: Log, bytes: &[u8], out: &mut [u8]) -> Result<usize, Refusal> {
     match letter {
         b'g' => {
             let first = Sequence(numbers::whole(text, 0));

@@ -1,10 +1,10 @@
 // The page: words and numbers written to standard output. An answer begins on a new line.
 ghost use Rattle.std.specs.Prelude.{◌<◌};
 
+use wire::refusal::Refusal;
 use blocks::Block;
 use std::io;
 use wire::kinds::{Name, Password, Sequence, User};
-use wire::output::Written;
 
 // The room for what a line spells, and for what the desk writes: enough for the longest packet, and for what is looked at behind it.
 pub const ROOM: usize = 65600;
@@ -207,13 +207,13 @@ pub fn written(rt: &impl Print, out: &[u8], length: usize) -> io::Result<()> {
 }
 
 // What a writer answers, and the bytes that it wrote.
-pub fn wrote(rt: &impl Print, label: &[u8], said: Written, out: &[u8; ROOM]) -> io::Result<()> {
+pub fn wrote(rt: &impl Print, label: &[u8], said: Result<usize, Refusal>, out: &[u8; ROOM]) -> io::Result<()> {
     match said {
-        Written::Refused(n) => {
+        Err(n) => {
             refused(rt, n)?;
             untouched(rt, out, 0)
         }
-        Written::Bytes(length) => {
+        Ok(length) => {
             number(rt, label, length as u64)?;
             written(rt, out, length)?;
             untouched(rt, out, length)

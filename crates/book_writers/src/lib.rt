@@ -3,12 +3,12 @@
 
 ghost use Rattle.std.specs.Prelude.{◌+◌, ◌≤◌, length};
 
+use wire::refusal::Refusal;
 use book_page::page;
 use memx_tcp::packet::Fields;
 use std::io;
 use wire::fields;
 use wire::kinds::{Password, Sequence, SessionId};
-use wire::output::Written;
 
 // The fields of a line lie within so many bytes.
 const FIELDS: usize = 48;
@@ -29,9 +29,9 @@ fn rest(d: &[u8], place: usize, n: usize) -> &[u8] {
     &d[0..0]
 }
 
-fn down(d: &[u8], n: usize, out: &mut [u8]) -> Written {
+fn down(d: &[u8], n: usize, out: &mut [u8]) -> Result<usize, Refusal> {
     if d.len() < FIELDS {
-        return Written::Refused(0);
+        return Err(0);
     }
     match d[0] {
         b'A' => ufo_write::write_accept(names::get_name(d, 1), number(d, 11), out),
@@ -41,9 +41,9 @@ fn down(d: &[u8], n: usize, out: &mut [u8]) -> Written {
     }
 }
 
-fn up(d: &[u8], n: usize, out: &mut [u8]) -> Written {
+fn up(d: &[u8], n: usize, out: &mut [u8]) -> Result<usize, Refusal> {
     if d.len() < FIELDS {
-        return Written::Refused(0);
+        return Err(0);
     }
     match d[0] {
         b'L' => ufo_up_write::write_login(
@@ -60,7 +60,7 @@ fn up(d: &[u8], n: usize, out: &mut [u8]) -> Written {
 }
 
 // A MEMX packet with extra bytes. The count stands at a place of the line, and the blocks behind it.
-fn broadcast(d: &[u8], n: usize, extra: &[u8], place: usize, out: &mut [u8]) -> Written
+fn broadcast(d: &[u8], n: usize, extra: &[u8], place: usize, out: &mut [u8]) -> Result<usize, Refusal>
     requires { (48 ≤ length d.now) × (place + 2 ≤ length d.now) }
 {
     let session = SessionId(fields::get8(d, 1));
@@ -78,28 +78,28 @@ fn broadcast(d: &[u8], n: usize, extra: &[u8], place: usize, out: &mut [u8]) -> 
     }
 }
 
-fn memx(d: &[u8], n: usize, out: &mut [u8]) -> Written {
+fn memx(d: &[u8], n: usize, out: &mut [u8]) -> Result<usize, Refusal> {
     if d.len() < FIELDS {
-        return Written::Refused(0);
+        return Err(0);
     }
     broadcast(d, n, b"", 17, out)
 }
 
 // Behind the number stands how many extra bytes there are, in two bytes, and then those.
-fn headed(d: &[u8], n: usize, out: &mut [u8]) -> Written {
+fn headed(d: &[u8], n: usize, out: &mut [u8]) -> Result<usize, Refusal> {
     if d.len() < FIELDS {
-        return Written::Refused(0);
+        return Err(0);
     }
     let place = 19 + fields::get2(d, 17) as usize;
     if d.len() - 2 < place {
-        return Written::Refused(0);
+        return Err(0);
     }
     broadcast(d, n, &d[19..place], place, out)
 }
 
-fn soup(d: &[u8], n: usize, out: &mut [u8]) -> Written {
+fn soup(d: &[u8], n: usize, out: &mut [u8]) -> Result<usize, Refusal> {
     if d.len() < FIELDS {
-        return Written::Refused(0);
+        return Err(0);
     }
     match d[0] {
         b'+' => soup_write::write_debug(rest(d, 1, n), out),
@@ -148,9 +148,9 @@ fn tcp_fields(d: &[u8]) -> Fields
 }
 
 // What stands behind the fields is the body.
-fn tcp(d: &[u8], n: usize, out: &mut [u8]) -> Written {
+fn tcp(d: &[u8], n: usize, out: &mut [u8]) -> Result<usize, Refusal> {
     if d.len() < FIELDS {
-        return Written::Refused(0);
+        return Err(0);
     }
     let body = match d[0] {
         1 | 2 | 6 | 9 | 100 => 2,
@@ -165,7 +165,7 @@ fn tcp(d: &[u8], n: usize, out: &mut [u8]) -> Written {
 }
 
 // The second word's first letter says whose packet it is.
-fn packet(letter: u8, d: &[u8], n: usize, out: &mut [u8]) -> Written {
+fn packet(letter: u8, d: &[u8], n: usize, out: &mut [u8]) -> Result<usize, Refusal> {
     match letter {
         b'd' => down(d, n, out),
         b'u' => up(d, n, out),

@@ -5,6 +5,7 @@ use Rattle.std.proofs.Math.Option.{Option, none, some}
 use Rattle.std.specs.Float.{binary64}
 use Rattle.std.specs.Float.Ieee.{add, mul, le, lt}
 use Rattle.wire.specs.Checks.{Verdict, refused, taken, Check, ◌else◌, checked}
+use Rattle.wire.specs.declared.refusal.Refusal.TheVariants.{Broken, Range}
 use Rattle.clock.specs.Milliseconds.{whole, between}
 use Rattle.clock.specs.Sheet.{sound}
 use Rattle.clock.specs.declared.sheet.Sheet.{Sheet}
@@ -32,7 +33,7 @@ wait_under s (Fixed w) = some w
 wait_under s (Measured floor ceiling) = some (clamped floor ceiling (measured s))
 
 abbrev pub waiting : Sheet → Patience → Verdict (Option Float)
-waiting s p = checked ((sound s else 10) ∷ (in_range p else 15) ∷ []) (taken (wait_under s p))
+waiting s p = checked ((sound s else Broken) ∷ (in_range p else Range) ∷ []) (taken (wait_under s p))
 
 abbrev pub wait_of : Verdict (Option Float) → Wait
 wait_of (refused n) = wait.Refused n
@@ -50,7 +51,7 @@ within_day elapsed = between (whole 0) elapsed (whole 86400000)
 
 -- what is checked before anything is said of a wait
 abbrev pub wait_over_checks : Sheet → Patience → Float → List Check
-wait_over_checks s p elapsed = (sound s else 10) ∷ (in_range p else 15) ∷ (within_day elapsed else 15) ∷ []
+wait_over_checks s p elapsed = (sound s else Broken) ∷ (in_range p else Range) ∷ (within_day elapsed else Range) ∷ []
 
 abbrev pub wait_over : Sheet → Patience → Float → Verdict Bool
 wait_over s p elapsed = checked (wait_over_checks s p elapsed) (taken (past (wait_under s p) elapsed))

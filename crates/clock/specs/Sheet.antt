@@ -4,6 +4,7 @@ use Rattle.std.specs.Prelude.{[], ◌∷◌, Bool, true, ◌&&◌, Float, if◌t
 use Rattle.std.specs.Float.{binary64}
 use Rattle.std.specs.Float.Ieee.{add, sub, mul, div, neg, lt}
 use Rattle.wire.specs.Checks.{Verdict, refused, taken, ◌else◌, checked}
+use Rattle.wire.specs.declared.refusal.Refusal.TheVariants.{Broken, Range}
 use Rattle.clock.specs.Milliseconds.{decimal, whole, lawful}
 use Rattle.clock.specs.declared.sheet.Sheet.{Sheet}
 use Rattle.clock.specs.declared.sheet.Timed.{Timed}
@@ -33,7 +34,7 @@ smoothed s r =
     else record { mean = r; spread = div binary64 r (whole 2); timed = true }
 
 abbrev pub timing : Sheet → Float → Verdict Sheet
-timing s r = checked ((sound s else 10) ∷ (lawful r else 15) ∷ []) (taken (smoothed s r))
+timing s r = checked ((sound s else Broken) ∷ (lawful r else Range) ∷ []) (taken (smoothed s r))
 
 abbrev pub timed_of : Verdict Sheet → Timed
 timed_of (refused n) = timed.Refused n

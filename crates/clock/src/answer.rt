@@ -1,8 +1,9 @@
+use wire::refusal::Refusal;
 // What the clock says to a question of yes or no.
 
 #[derive(Clone, Copy)]
 pub enum Said {
-    Refused(u8),
+    Refused(Refusal),
     Yes,
     No,
 }

@@ -7,7 +7,7 @@ ghost use Rattle.clock.specs.Answer.{said_of};
 use crate::answer::Said;
 use crate::range::{MINUTE, is_between};
 use crate::sheet::{Sheet, is_sound};
-use wire::refusal::{BROKEN, RANGE};
+use wire::refusal::Refusal;
 
 const DAY: f64 = 86_400_000.0;
 
@@ -23,7 +23,7 @@ pub enum Patience {
 
 #[derive(Clone, Copy)]
 pub enum Wait {
-    Refused(u8),
+    Refused(Refusal),
     Never,
     After(f64),
 }
@@ -65,10 +65,10 @@ pub fn wait_of(sheet: Sheet, rule: Patience) -> Wait
     ensures { result ≡ wait_of (waiting sheet rule) }
 {
     if !is_sound(sheet) {
-        return Wait::Refused(BROKEN);
+        return Wait::Refused(Refusal::Broken);
     }
     if !is_in_range(rule) {
-        return Wait::Refused(RANGE);
+        return Wait::Refused(Refusal::Range);
     }
     match rule {
         Patience::Never => Wait::Never,
@@ -81,7 +81,7 @@ fn say_at(elapsed: f64, yes: bool) -> Said
     ensures { result ≡ said_of (checked ((within_day elapsed else 15) ∷ []) (taken yes)) }
 {
     if !is_between(0.0, elapsed, DAY) {
-        return Said::Refused(RANGE);
+        return Said::Refused(Refusal::Range);
     }
     if yes { Said::Yes } else { Said::No }
 }

@@ -3,7 +3,7 @@ ghost use Rattle.std.specs.Prelude.{◌≡◌};
 ghost use Rattle.clock.specs.Sheet.{sound, apart, smoothed, timing, timed_of};
 
 use crate::range::is_lawful;
-use wire::refusal::{BROKEN, RANGE};
+use wire::refusal::Refusal;
 
 #[derive(Clone, Copy)]
 pub struct Sheet {
@@ -15,7 +15,7 @@ pub struct Sheet {
 
 #[derive(Clone, Copy)]
 pub enum Timed {
-    Refused(u8),
+    Refused(Refusal),
     Sheet(Sheet),
 }
 
@@ -62,10 +62,10 @@ pub fn time(sheet: Sheet, sample: f64) -> Timed
     ensures { result ≡ timed_of (timing sheet sample) }
 {
     if !is_sound(sheet) {
-        return Timed::Refused(BROKEN);
+        return Timed::Refused(Refusal::Broken);
     }
     if !is_lawful(sample) {
-        return Timed::Refused(RANGE);
+        return Timed::Refused(Refusal::Range);
     }
     Timed::Sheet(smooth(sheet, sample))
 }

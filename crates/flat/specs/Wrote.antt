@@ -2,14 +2,12 @@
 -- Assumes nothing.
 use Rattle.std.specs.Prelude.{ℕ, ◌≡◌, List}
 use Rattle.wire.specs.Reply.{Reply, answer_of, left_of}
-use Rattle.wire.specs.declared.output.Written.{Written}
-use Rattle.wire.specs.declared.output.Written.TheVariants.{Refused, Bytes}
 use Rattle.flat.specs.declared.wrote.Wrote.{Wrote}
 
 -- the refusal, or 0 and how many bytes were written
-abbrev pub wrote_of : Written → Wrote
-wrote_of (Refused n) = record { refusal = n; bytes = 0 }
-wrote_of (Bytes n) = record { refusal = 0; bytes = n }
+abbrev pub wrote_of : Verdict ℕ → Wrote
+wrote_of (refused n) = record { refusal = n; bytes = 0 }
+wrote_of (taken n) = record { refusal = 0; bytes = n }
 
 -- the answer r and the bytes left are those of the reply
 pub record FlatSettled (reply : Reply) (out : List ℕ) (r : Wrote) (left : List ℕ) : Type 0 where

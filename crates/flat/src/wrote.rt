@@ -1,8 +1,8 @@
+use wire::refusal::Refusal;
 // What every writer answers: the refusal, or how many bytes it wrote.
 ghost use Rattle.std.specs.Prelude.{◌≡◌};
 ghost use Rattle.flat.specs.Wrote.{wrote_of};
 
-use wire::output::Written;
 
 #[repr(C)]
 #[derive(Clone, Copy)]
@@ -11,15 +11,15 @@ pub struct Wrote {
     pub bytes: u64,
 }
 
-pub fn wrote_of(written: Written) -> Wrote
+pub fn wrote_of(written: Result<usize, Refusal>) -> Wrote
     ensures { result ≡ wrote_of written }
 {
     match written {
-        Written::Refused(number) => Wrote {
+        Err(number) => Wrote {
             refusal: number as u64,
             bytes: 0,
         },
-        Written::Bytes(bytes) => Wrote {
+        Ok(bytes) => Wrote {
             refusal: 0,
             bytes: bytes as u64,
         },

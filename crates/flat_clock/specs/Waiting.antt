@@ -2,6 +2,7 @@
 -- Assumes nothing.
 use Rattle.std.specs.Prelude.{ℕ, [], ◌∷◌, Float, if◌then◌else◌}
 use Rattle.wire.specs.Checks.{◌is◌, Verdict, taken, ◌else◌, checked, ◌into◌}
+use Rattle.wire.specs.declared.refusal.Refusal.TheVariants.{Broken}
 use Rattle.clock.specs.Answer.{said_of}
 use Rattle.clock.specs.Milliseconds.{whole}
 use Rattle.clock.specs.Patience.{waiting, wait_of}
@@ -28,7 +29,7 @@ abbrev pub sheet_of : FlatSheet → Sheet
 sheet_of s = record { mean = s.mean; spread = s.spread; timed = says s.timed }
 
 abbrev pub known_sheet : FlatSheet → Verdict Sheet
-known_sheet s = checked ((is_flag s.timed else 10) ∷ []) (taken (sheet_of s))
+known_sheet s = checked ((is_flag s.timed else Broken) ∷ []) (taken (sheet_of s))
 
 abbrev pub flat_sheet : Sheet → FlatSheet
 flat_sheet s = record { mean = s.mean; spread = s.spread; timed = byte_of s.timed }

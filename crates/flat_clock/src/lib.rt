@@ -11,7 +11,7 @@ use clock::sheet::{Sheet, Timed};
 use clock::{patience, sheet};
 use flat::flag;
 use wire::kinds::Tick;
-use wire::refusal;
+use wire::refusal::Refusal;
 
 #[repr(C)]
 #[derive(Clone, Copy)]
@@ -141,7 +141,7 @@ pub fn time(given: FlatSheet, sample: f64) -> FlatTimed
     if flag::is_flag(given.timed) {
         flat_timed(given, sheet::time(sheet_of(given), sample))
     } else {
-        flat_timed(given, Timed::Refused(refusal::BROKEN))
+        flat_timed(given, Timed::Refused(Refusal::Broken))
     }
 }
 
@@ -151,7 +151,7 @@ pub fn wait_of(given: FlatSheet, patience: FlatPatience) -> FlatWait
     if flag::is_flag(given.timed) {
         flat_wait(patience::wait_of(sheet_of(given), rule_of(patience)))
     } else {
-        flat_wait(Wait::Refused(refusal::BROKEN))
+        flat_wait(Wait::Refused(Refusal::Broken))
     }
 }
 

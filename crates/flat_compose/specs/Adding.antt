@@ -5,6 +5,7 @@ use Rattle.std.specs.Prelude.{ℕ, ◌+◌, ◌≡◌, List, [], ◌∷◌, leng
 use Rattle.wire.specs.Checks.{◌is◌, ◌at_most◌, Verdict, ◌else◌, checked, ◌into◌}
 use Rattle.wire.specs.Datagram.{limit}
 use Rattle.wire.specs.Reply.{Reply}
+use Rattle.wire.specs.declared.refusal.Refusal.TheVariants.{Framing}
 use Rattle.ufo_up.specs.Up as up
 use Rattle.ufo_compose.specs.Compose.{message_of, so_far, add_reply}
 use Rattle.ufo_compose.specs.declared.Message as declared
@@ -13,7 +14,7 @@ use Rattle.flat_packet.specs.Fitting.{unfit}
 
 -- the packet so far, which must be in the output
 abbrev pub begun : List ℕ → ℕ → Verdict (List up.Message)
-begun out used = checked ((used at_most length out else 4) ∷ []) (so_far (take used out))
+begun out used = checked ((used at_most length out else Framing) ∷ []) (so_far (take used out))
 
 -- a block of `size` bytes behind it that can't be
 abbrev pub unfit_behind : (out : List ℕ) (used size number : ℕ) → Reply

@@ -16,30 +16,29 @@ use ufo_compose::Message;
 use ufo_up::up::Upstream;
 use wire::datagram::LIMIT;
 use wire::kinds::{Password, Sequence};
-use wire::output::Written;
-use wire::refusal;
+use wire::refusal::Refusal;
 
 // A message and a body that don't go together: what is there is read first. The block has `size` bytes without the body.
-fn unfit_behind(out: &mut [u8], used: usize, size: u16, body: &[u8], number: u8) -> Written
+fn unfit_behind(out: &mut [u8], used: usize, size: u16, body: &[u8], number: u8) -> Result<usize, Refusal>
     ensures { Settled (unfit_behind out.old used (size + length body.now) number)
         out.old result out.new }
 {
     if out.len() < used {
-        return Written::Refused(refusal::FRAMING);
+        return Err(Refusal::Framing);
     }
     match ufo_compose::read_so_far(&out[..used]) {
-        Upstream::Refused(n) => Written::Refused(n),
+        Upstream::Refused(n) => Err(n),
         Upstream::Messages(_) => unfit(LIMIT, used + size as usize, body, number),
     }
 }
 
 // A message that has no body.
-fn alone(message: Message, size: u16, body: &[u8], out: &mut [u8], used: usize) -> Written
+fn alone(message: Message, size: u16, body: &[u8], out: &mut [u8], used: usize) -> Result<usize, Refusal>
     ensures { Settled (alone_behind out.old used size body.now
         (add_reply (message_of message body.now) out.old used)) out.old result out.new }
 {
     if body.len() != 0 {
-        return unfit_behind(out, used, size, body, refusal::FRAMING);
+        return unfit_behind(out, used, size, body, Refusal::Framing);
     }
     ufo_compose::add_message(message, body, out, used)
 }
@@ -57,7 +56,7 @@ fn login_of(fields: Packet) -> Message
     }
 }
 
-fn added(fields: Packet, body: &[u8], out: &mut [u8], used: usize) -> Written
+fn added(fields: Packet, body: &[u8], out: &mut [u8], used: usize) -> Result<usize, Refusal>
     ensures { Settled (add_flat fields body.now out.old used) out.old result out.new }
 {
     let kind = fields.kind;
@@ -69,7 +68,7 @@ fn added(fields: Packet, body: &[u8], out: &mut [u8], used: usize) -> Written
         b'U' => ufo_compose::add_message(Message::Unsequenced, body, out, used),
         b'R' => alone(Message::Heartbeat, 3, body, out, used),
         b'O' => alone(Message::Logout, 3, body, out, used),
-        _ => unfit_behind(out, used, 3, body, refusal::UNKNOWN_TYPE),
+        _ => unfit_behind(out, used, 3, body, Refusal::UnknownType),
     }
 }
 

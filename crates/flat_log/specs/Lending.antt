@@ -3,6 +3,7 @@
 use Rattle.std.specs.Prelude.{ℕ, ◌≡◌, List, [], ◌∷◌}
 use Rattle.wire.specs.Checks.{Verdict, taken, ◌else◌, checked, ◌into◌}
 use Rattle.wire.specs.Reply.{Reply}
+use Rattle.wire.specs.declared.refusal.Refusal.TheVariants.{Broken}
 use Rattle.lend.specs.Answer.{answer_reply, heartbeat_reply, end_packet_reply}
 use Rattle.lent_log.specs.Log.{Kept, adding, adding_many, declaring, logged_of, left_of}
 use Rattle.lent_log.specs.declared.Log.{Log}
@@ -17,7 +18,7 @@ abbrev pub log_of : FlatLog → Log
 log_of l = record { count = l.count; used = l.used; ended = says l.ended }
 
 abbrev pub known_log : FlatLog → Verdict Log
-known_log l = checked ((is_flag l.ended else 10) ∷ []) (taken (log_of l))
+known_log l = checked ((is_flag l.ended else Broken) ∷ []) (taken (log_of l))
 
 abbrev pub flat_log : Log → FlatLog
 flat_log l = record { count = l.count; used = l.used; ended = byte_of l.ended }

@@ -10,8 +10,7 @@ use flat::flag;
 use flat::wrote::{Wrote, wrote_of};
 use lent_log::{Log, Logged};
 use wire::kinds::Sequence;
-use wire::output::Written;
-use wire::refusal;
+use wire::refusal::Refusal;
 
 #[repr(C)]
 #[derive(Clone, Copy)]
@@ -70,7 +69,7 @@ pub fn add(given: FlatLog, bytes: &mut [u8], message: &[u8]) -> FlatLogged
     if flag::is_flag(given.ended) {
         flat_logged(given, lent_log::add(log_of(given), bytes, message))
     } else {
-        flat_logged(given, Logged::Refused(refusal::BROKEN))
+        flat_logged(given, Logged::Refused(Refusal::Broken))
     }
 }
 
@@ -82,7 +81,7 @@ pub fn add_many(given: FlatLog, bytes: &mut [u8], blocks: &[u8]) -> FlatLogged
     if flag::is_flag(given.ended) {
         flat_logged(given, lent_log::add_many(log_of(given), bytes, blocks))
     } else {
-        flat_logged(given, Logged::Refused(refusal::BROKEN))
+        flat_logged(given, Logged::Refused(Refusal::Broken))
     }
 }
 
@@ -92,7 +91,7 @@ pub fn declare_end(given: FlatLog, bytes: &[u8]) -> FlatLogged
     if flag::is_flag(given.ended) {
         flat_logged(given, lent_log::declare_end(log_of(given), bytes))
     } else {
-        flat_logged(given, Logged::Refused(refusal::BROKEN))
+        flat_logged(given, Logged::Refused(Refusal::Broken))
     }
 }
 
@@ -104,7 +103,7 @@ pub fn answer(given: FlatLog, bytes: &[u8], first: u32, count: u16, out: &mut [u
         let first = Sequence(first as u64);
         wrote_of(lend::answer(log_of(given), bytes, first, count, out))
     } else {
-        wrote_of(Written::Refused(refusal::BROKEN))
+        wrote_of(Err(Refusal::Broken))
     }
 }
 
@@ -115,7 +114,7 @@ pub fn heartbeat(given: FlatLog, bytes: &[u8], out: &mut [u8]) -> Wrote
     if flag::is_flag(given.ended) {
         wrote_of(lend::heartbeat(log_of(given), bytes, out))
     } else {
-        wrote_of(Written::Refused(refusal::BROKEN))
+        wrote_of(Err(Refusal::Broken))
     }
 }
 
@@ -126,6 +125,6 @@ pub fn end_packet(given: FlatLog, bytes: &[u8], out: &mut [u8]) -> Wrote
     if flag::is_flag(given.ended) {
         wrote_of(lend::end_packet(log_of(given), bytes, out))
     } else {
-        wrote_of(Written::Refused(refusal::BROKEN))
+        wrote_of(Err(Refusal::Broken))
     }
 }

@@ -9,6 +9,7 @@ use lib.ListN.{length}
 use Rattle.wire.specs.Fields.{bytes_of}
 use Rattle.wire.specs.Checks.{◌is◌, ◌at_most◌, refused, ◌else◌, checked}
 use Rattle.wire.specs.Reply.{settle}
+use Rattle.wire.specs.declared.refusal.Refusal.TheVariants.{Overlong, UnknownType, Form}
 use Rattle.wire.proofs.Tests.{by-test}
 use Rattle.memx.specs.Packet.{limit, headed}
 use Rattle.memx.specs.Read.{read}
@@ -32,7 +33,7 @@ module _ (p : Packet) (body : List ℕ) where
 
     pub over-237-is-5 : 237 < length extra
         → memx_reply p extra body room
-        ≡ checked ((length (packet_with extra) at_most limit else 2) ∷ (p.kind at_most 2 else 3) ∷ []) (refused 5)
+        ≡ checked ((length (packet_with extra) at_most limit else Overlong) ∷ (p.kind at_most 2 else UnknownType) ∷ []) (refused Form)
     over-237-is-5 h = is-sent ∙ writing.over-237-is-5 p.kind p.session p.number extra follows room h
 
     -- the number is that of the packet without them, and 9 is for want of room for it with them

@@ -15,8 +15,7 @@ use flat_packet::{Packet, Read};
 use memx::layout;
 use memx::reading::Memx;
 use wire::kinds::{Sequence, SessionId};
-use wire::output::Written;
-use wire::refusal;
+use wire::refusal::Refusal;
 
 // The packet has `size` bytes.
 fn flat_of(said: Memx, size: u64) -> Read
@@ -62,12 +61,12 @@ fn bodiless(extra: &[u8]) -> u8
     ensures { result ≡ (if length extra.now at_most 237 then 4 else 5) }
 {
     if layout::MOST_EXTRA < extra.len() {
-        return refusal::FORM;
+        return Refusal::Form;
     }
-    refusal::FRAMING
+    Refusal::Framing
 }
 
-fn written(fields: Packet, extra: &[u8], body: &[u8], out: &mut [u8]) -> Written
+fn written(fields: Packet, extra: &[u8], body: &[u8], out: &mut [u8]) -> Result<usize, Refusal>
     ensures { Settled (memx_reply fields extra.now body.now (length out.old))
         out.old result out.new }
 {
@@ -80,7 +79,7 @@ fn written(fields: Packet, extra: &[u8], body: &[u8], out: &mut [u8]) -> Written
         return memx_write::write_messages(session, number, count, extra, body, out);
     }
     if layout::MESSAGES < kind {
-        return unfit(layout::LIMIT, header, body, refusal::UNKNOWN_TYPE);
+        return unfit(layout::LIMIT, header, body, Refusal::UnknownType);
     }
     if body.len() != 0 {
         return unfit(layout::LIMIT, header, body, bodiless(extra));

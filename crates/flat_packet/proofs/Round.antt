@@ -14,6 +14,7 @@ use lib.Seq.{take_all, take-length}
 use Rattle.wire.specs.Fields.{Bytes}
 use Rattle.wire.specs.Checks.{◌is◌, ◌at_most◌, Check, checked, Passed, Verdict, refused, taken}
 use Rattle.wire.specs.Reply.{Reply, within, settle}
+use Rattle.wire.specs.declared.refusal.Refusal.TheVariants.{Overlong}
 use Rattle.wire.proofs.Checks.{chosen, not-both, all-passed, passed-all}
 use Rattle.wire.proofs.Settling.{within-taken, settle-checked}
 use Rattle.wire.proofs.Width.{bytes-cons}
@@ -125,9 +126,9 @@ module _ {A : Type 0} (Fit : A → Type 0) (write : A → List ℕ) (flat : ℕ 
 -- no packet that can't be, and no body with a type that has none
 pub unfit-not-given : {C : Type 0} (limit size n : ℕ) (d : List ℕ) → unfit limit size n ≡ taken d → C
 unfit-not-given limit size n d =
-    chosen (size at_most limit) (refused n) (refused 2) (taken d)
+    chosen (size at_most limit) (refused n) (refused Overlong) (taken d)
     (λ _. not-both (refused n) n d refl)
-    (λ _. not-both (refused 2) 2 d refl)
+    (λ _. not-both (refused Overlong) 2 d refl)
 
 pub given-no-body : (limit size : ℕ) (body : List ℕ) (reply : Reply) (d : List ℕ) → alone limit size body reply ≡ taken d
     → (body ≡ []) × (reply ≡ taken d)

@@ -3,10 +3,11 @@
 use Rattle.std.specs.Prelude.{ℕ, ◌+◌, List, length, if◌then◌else◌}
 use Rattle.wire.specs.Checks.{◌is◌, ◌at_most◌, refused}
 use Rattle.wire.specs.Reply.{Reply}
+use Rattle.wire.specs.declared.refusal.Refusal.TheVariants.{Overlong}
 
 -- a packet of `size` bytes that can't be: it is over the limit, or refused under a number
 abbrev pub unfit : (limit size number : ℕ) → Reply
-unfit limit size number = if size at_most limit then refused number else refused 2
+unfit limit size number = if size at_most limit then refused number else refused Overlong
 
 -- a type that has no body, of `size` bytes without one: a body makes the packet too long; `Refusing` shows that a reader refuses it so
 abbrev pub alone : (limit size : ℕ) → List ℕ → Reply → Reply

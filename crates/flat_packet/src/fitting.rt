@@ -3,18 +3,17 @@ ghost use Rattle.std.specs.Prelude.{◌≡◌, ◌+◌, length};
 ghost use Rattle.wire.specs.Reply.{answer_of};
 ghost use Rattle.flat_packet.specs.Fitting.{unfit};
 
-use wire::output::Written;
-use wire::refusal;
+use wire::refusal::Refusal;
 
 // The packet has `size` bytes without the body.
-pub fn unfit(limit: usize, size: usize, body: &[u8], number: u8) -> Written
+pub fn unfit(limit: usize, size: usize, body: &[u8], number: u8) -> Result<usize, Refusal>
     ensures { result ≡ answer_of (unfit limit (size + length body.now) number) }
 {
     if limit < size {
-        return Written::Refused(refusal::OVERLONG);
+        return Err(Refusal::Overlong);
     }
     if limit - size < body.len() {
-        return Written::Refused(refusal::OVERLONG);
+        return Err(Refusal::Overlong);
     }
-    Written::Refused(number)
+    Err(number)
 }

@@ -8,6 +8,7 @@ use lib.Seq.{take-append_seam}
 use native.Mathlib.Omega.{arith}
 use Rattle.wire.specs.Checks.{Verdict, refused, taken, ◌else◌}
 use Rattle.wire.specs.declared.kinds.Sequence.{Sequence}
+use Rattle.wire.specs.declared.refusal.Refusal.TheVariants.{Broken}
 use Rattle.wire.proofs.Checks.{all-passed, taken-same}
 use Rattle.wire.proofs.Tests.{impossible}
 use Rattle.soup.specs.Packet.{Packet}
@@ -55,7 +56,7 @@ module _ (lent : FlatPieces) (from : ℕ) where
       let machine : Machine = machine_of pieces buffer in
       let left : List ℕ = drop from piece in
       let f : First = given (packet d p n) s rest in
-      let known = (all-passed ((is_flag lent.dropping else 10) ∷ []) (eating pieces buffer piece from) f e).1 in
+      let known = (all-passed ((is_flag lent.dropping else Broken) ∷ []) (eating pieces buffer piece from) f e).1 in
       let passed = (all-passed (call_checks pieces buffer piece from) (taken (first machine left)) f known).1 in
       (first-genuine machine left (packet d p n) s rest (taken-same (first machine left) f passed)).0
 

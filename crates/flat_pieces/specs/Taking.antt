@@ -3,6 +3,7 @@
 use Rattle.std.specs.Prelude.{ℕ, ◌-◌, ◌≡◌, List, [], ◌∷◌, length}
 use Rattle.wire.specs.Checks.{Verdict, refused, taken, ◌else◌, checked, ◌into◌}
 use Rattle.wire.specs.Reply.{left_of}
+use Rattle.wire.specs.declared.refusal.Refusal.TheVariants.{Broken}
 use Rattle.soup_pieces.specs.Machine.{Machine, packet, refusal, First, used_up, given}
 use Rattle.soup_pieces.specs.Eating.{pieces_of as handed_back, eating, at_start}
 use Rattle.soup_pieces.specs.declared.Pieces.{Pieces}
@@ -26,7 +27,7 @@ flat_machine s = flat_pieces (handed_back s)
 
 -- the entry: a flag that is none is 10, before all else
 abbrev pub take_verdict : FlatPieces → (buffer piece : List ℕ) (place : ℕ) → Verdict First
-take_verdict lent buffer piece place = checked ((is_flag lent.dropping else 10) ∷ []) (eating (pieces_of lent) buffer piece place)
+take_verdict lent buffer piece place = checked ((is_flag lent.dropping else Broken) ∷ []) (eating (pieces_of lent) buffer piece place)
 
 -- where the call is refused, the pieces that were lent; the place is where the bytes that are left begin; a packet's fields are those that
 -- the reader gives

@@ -15,7 +15,8 @@ use flat_packet::{Packet, Read};
 use soup::reading::Reading;
 use soup_pieces::{Pieces, Taken};
 use wire::kinds::Sequence;
-use wire::{output, refusal};
+use wire::refusal::Refusal;
+use wire::output;
 
 // What is handed from call to call, with the buffer.
 #[repr(C)]
@@ -118,7 +119,7 @@ fn told(said: Reading, bytes: &[u8]) -> Read
     ensures { result ≡ soup_read bytes.now }
 {
     if bytes.len() == 0 {
-        return flat_packet::no_packet(refusal::EMPTY);
+        return flat_packet::no_packet(Refusal::Empty);
     }
     let kind = bytes[0];
     match said {
@@ -176,7 +177,7 @@ fn verdict(given: FlatPieces, buffer: &mut [u8], piece: &[u8], place: usize) -> 
     if flag::is_flag(given.dropping) {
         soup_pieces::take(pieces_of(given), buffer, piece, place)
     } else {
-        Taken::Refused(refusal::BROKEN)
+        Taken::Refused(Refusal::Broken)
     }
 }
 

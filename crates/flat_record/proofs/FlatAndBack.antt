@@ -7,6 +7,7 @@ use mathlib.Core.Bool.{true, not, ◌||◌}
 use mathlib.Core.List.{List, [], ◌∷◌}
 use lib.Ieee.{Float}
 use Rattle.wire.specs.Checks.{◌is◌, taken, ◌else◌}
+use Rattle.wire.specs.declared.refusal.Refusal.TheVariants.{Form, Absent, Broken}
 use Rattle.wire.proofs.Checks.{all-passed, taken-same}
 use Rattle.wire.proofs.Tests.{and_left}
 use Rattle.names.specs.Names.{name_of, name_bytes}
@@ -38,13 +39,13 @@ record-again given r h e = rw (h, flag-again r.ended, says-again r.ended, e)
 known : (given : FlatRecord) (r : Record) → known_record given ≡ taken r
     → ((given.style is 1 || given.style is 2) ≡ true) × (record_of given ≡ r)
 known given r e =
-    let p = all-passed ((readable given else 10) ∷ []) (taken (record_of given)) r e in
+    let p = all-passed ((readable given else Broken) ∷ []) (taken (record_of given)) r e in
     (and_left (given.style is 1 || given.style is 2) (is_flag given.ended) p.0.0, taken-same (record_of given) r p.1)
 
 -- once it is opened
 pub opened-ufo-again : (name : List ℕ) (r : Record) → opening (name_of name) ≡ taken r → known_record (open_ufo name).opened ≡ taken r
 opened-ufo-again name r e =
-    let checks = (text_then_spaces (name_bytes (name_of name)) else 5) ∷ (not (blank (name_bytes (name_of name))) else 6) ∷ [] in
+    let checks = (text_then_spaces (name_bytes (name_of name)) else Form) ∷ (not (blank (name_bytes (name_of name))) else Absent) ∷ [] in
     let p = all-passed checks (taken (fresh (Ufo (name_of name)))) r e in
     rw (e, ← taken-same (fresh (Ufo (name_of name))) r p.1)
 

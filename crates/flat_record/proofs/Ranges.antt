@@ -7,6 +7,7 @@ use mathlib.Core.Bool.{true}
 use mathlib.Core.List.{List, [], ◌∷◌}
 use lib.ListN.{length, get_or-eq_default}
 use Rattle.wire.specs.Checks.{taken, ◌else◌}
+use Rattle.wire.specs.declared.refusal.Refusal.TheVariants.{Broken}
 use Rattle.wire.proofs.Checks.{all-passed}
 use Rattle.missing.specs.Missing.{◌to◌, ◌at◌}
 use Rattle.missing.specs.declared.Range.{Range}
@@ -31,7 +32,7 @@ module _ (given : FlatRecord) (r : Record) (known : known_record given ≡ taken
   gives : (place : ℕ) → range_at r place ≡ taken (rs at place)
   unfolding standing range_at
   gives place =
-      let hung : hangs r ≡ true = (all-passed ((hangs r else 10) ∷ []) (taken (state r)) (missing rs) lacks).0.0 in
+      let hung : hangs r ≡ true = (all-passed ((hangs r else Broken) ∷ []) (taken (state r)) (missing rs) lacks).0.0 in
       let same : rs ≡ missing_of r = (standing-means r (missing rs) lacks).0 in
       rw (hung, same)
 

@@ -8,6 +8,7 @@ use lib.Ieee.{Float, round, lt}
 use native.Mathlib.Omega.{arith}
 use borrow.Author.Tests.{ne_eqb}
 use Rattle.wire.specs.Checks.{Verdict, refused, taken, ◌else◌, checked, ◌into◌}
+use Rattle.wire.specs.declared.refusal.Refusal.TheVariants.{Broken, Range}
 use Rattle.clock.specs.Milliseconds.{whole}
 use Rattle.clock.specs.Sheet.{sound}
 use Rattle.clock.specs.Patience.{in_range, waiting}
@@ -21,8 +22,8 @@ use Rattle.flat_clock.specs.declared.FlatPatience.{FlatPatience}
 
 -- a refusal stands, whatever would come after it
 stands : {A B : Type 0} (a b : Bool) (f : A → Verdict B)
-    → checked ((a else 10) ∷ []) (checked ((b else 10) ∷ []) (refused 15) into f)
-    ≡ checked ((a else 10) ∷ (b else 10) ∷ []) (refused 15)
+    → checked ((a else Broken) ∷ []) (checked ((b else Broken) ∷ []) (refused Range) into f)
+    ≡ checked ((a else Broken) ∷ (b else Broken) ∷ []) (refused Range)
 stands true true f = refl
 stands true false f = refl
 stands false b f = refl
@@ -35,10 +36,10 @@ module _ (p : FlatPatience) (unknown : 2 < p.rule) where
   unfolding round lt
   out_of_range = rw taken-for
 
-  pub no-wait : (s : Sheet) → waiting s (rule_of p) ≡ checked ((sound s else 10) ∷ []) (refused 15)
+  pub no-wait : (s : Sheet) → waiting s (rule_of p) ≡ checked ((sound s else Broken) ∷ []) (refused Range)
   no-wait s = rw out_of_range
 
   pub no-request : (r : Record) (s : Sheet) (elapsed : Float)
-      → asking r s (rule_of p) elapsed ≡ checked ((hangs r else 10) ∷ (sound s else 10) ∷ []) (refused 15)
+      → asking r s (rule_of p) elapsed ≡ checked ((hangs r else Broken) ∷ (sound s else Broken) ∷ []) (refused Range)
   unfolding asking
   no-request r s elapsed = rw out_of_range (stands (hangs r) (sound s) (λ late. taken (wish r late)))

@@ -4,6 +4,7 @@ use Rattle.std.specs.Prelude.{ℕ, ◌≡◌, Bool, ◌&&◌, ◌||◌, List, []
 use Rattle.wire.specs.Checks.{◌is◌, Verdict, taken, ◌else◌, checked, ◌into◌}
 use Rattle.names.specs.Names.{name_of}
 use Rattle.wire.specs.Reply.{left_of}
+use Rattle.wire.specs.declared.refusal.Refusal.TheVariants.{Broken}
 use Rattle.record.specs.Standing.{standing, standing_of, range_at, range_of}
 use Rattle.taking.specs.Taking.{Taking, taking, taken_of, blocks_of, area_of}
 use Rattle.record.specs.declared.Session.{Session}
@@ -41,7 +42,7 @@ abbrev pub readable : FlatRecord → Bool
 readable r = (r.style is 1 || r.style is 2) && is_flag r.ended
 
 abbrev pub known_record : FlatRecord → Verdict Record
-known_record r = checked ((readable r else 10) ∷ []) (taken (record_of r))
+known_record r = checked ((readable r else Broken) ∷ []) (taken (record_of r))
 
 -- and back: style, name and session stay as they were given; FlatAndBack: taken up again it is the record that was laid flat
 abbrev pub flat_record : FlatRecord → Record → FlatRecord

@@ -9,7 +9,7 @@ use record::standing::{MissingRange, Standing};
 use record::{Record, Session};
 use taking::Taken;
 use wire::kinds::{Sequence, SessionId};
-use wire::refusal;
+use wire::refusal::Refusal;
 
 // style: 1 UFO, with the name; 2 MEMX-UDP, with the session.
 #[repr(C)]
@@ -187,7 +187,7 @@ pub fn take(given: FlatRecord, area: &mut [u8], datagram: &[u8], out: &mut [u8])
     if is_readable(given) {
         flat_taken(given, taking::take(record_of(given), area, datagram, out))
     } else {
-        flat_taken(given, Taken::Refused(refusal::BROKEN))
+        flat_taken(given, Taken::Refused(Refusal::Broken))
     }
 }
 
@@ -197,7 +197,7 @@ pub fn standing_of(given: FlatRecord) -> FlatStanding
     if is_readable(given) {
         flat_standing(record::standing::standing_of(record_of(given)))
     } else {
-        flat_standing(Standing::Refused(refusal::BROKEN))
+        flat_standing(Standing::Refused(Refusal::Broken))
     }
 }
 
@@ -208,6 +208,6 @@ pub fn missing_range(given: FlatRecord, place: u64) -> FlatRange
     if is_readable(given) {
         flat_range(record::standing::missing_range(record_of(given), place))
     } else {
-        flat_range(MissingRange::Refused(refusal::BROKEN))
+        flat_range(MissingRange::Refused(Refusal::Broken))
     }
 }

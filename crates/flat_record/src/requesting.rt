@@ -7,7 +7,7 @@ use crate::keeping::FlatRecord;
 use asking::Asked;
 use flat::flag;
 use flat_clock::{FlatPatience, FlatSheet};
-use wire::refusal;
+use wire::refusal::Refusal;
 
 // what: 0 nothing, 1 wait, 2 request.
 #[repr(C)]
@@ -68,6 +68,6 @@ pub fn ask(given: FlatRecord, sheet: FlatSheet, patience: FlatPatience, elapsed:
             ),
         )
     } else {
-        flat_asked(given, Asked::Refused(refusal::BROKEN))
+        flat_asked(given, Asked::Refused(Refusal::Broken))
     }
 }

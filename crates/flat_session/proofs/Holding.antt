@@ -6,6 +6,7 @@ use mathlib.Core.List.{[], ◌∷◌}
 use mathlib.Core.Bool.{true}
 use borrow.Author.Tests.{eqb-true}
 use Rattle.wire.specs.Checks.{taken, ◌else◌}
+use Rattle.wire.specs.declared.refusal.Refusal.TheVariants.{Broken}
 use Rattle.wire.proofs.Checks.{all-passed, taken-same}
 use Rattle.lent_log.specs.Log.{messages_in}
 use Rattle.lent_log.specs.declared.Log.{Log}
@@ -20,10 +21,10 @@ use Rattle.flat_session.specs.Promise.{messages, holds, Faithful, Delivered}
 
 module _ (h : Held) (s : State) (i : Holds h s) where
   log_is : log_of h.log ≡ s.log
-  log_is = taken-same _ _ (all-passed ((is_flag h.log.ended else 10) ∷ []) (taken (log_of h.log)) s.log i.log).1
+  log_is = taken-same _ _ (all-passed ((is_flag h.log.ended else Broken) ∷ []) (taken (log_of h.log)) s.log i.log).1
 
   record_is : record_of h.kept ≡ s.kept
-  record_is = taken-same _ _ (all-passed ((readable h.kept else 10) ∷ []) (taken (record_of h.kept)) s.kept i.kept).1
+  record_is = taken-same _ _ (all-passed ((readable h.kept else Broken) ∷ []) (taken (record_of h.kept)) s.kept i.kept).1
 
   pub next-is : h.kept.next ≡ s.kept.next.0
   next-is = ap (λ (r : Record). r.next.0) record_is

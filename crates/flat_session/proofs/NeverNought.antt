@@ -12,6 +12,7 @@ use Rattle.wire.specs.Checks.{◌is◌, ◌at_most◌, Verdict, refused, taken, 
 use Rattle.wire.specs.Datagram as datagram
 use Rattle.wire.specs.Reply.{Reply, within}
 use Rattle.wire.specs.declared.kinds.Name.{Name}
+use Rattle.wire.specs.declared.refusal.Refusal.TheVariants.{UnknownType, Form, Absent, Bound, Room, Broken, Contradiction}
 use Rattle.wire.proofs.Numbered.{HasNumber, has-number}
 use Rattle.wire.proofs.Tests.{by-test}
 use Rattle.wire.proofs.Width.{length-bytes_of}
@@ -63,7 +64,7 @@ laid-down (refused n) out x left t e z = never-nought n t (rw e.answer at z)
 laid-down (taken d) out x left t e z = rw (e.answer, e.bytes, take-append_seam d (drop (length d) out))
 
 numbered_within : (room : ℕ) (d : List ℕ) → HasNumber (within room d)
-numbered_within room d = has-number ((length d at_most room else 9) ∷ []) (taken d) refl tt
+numbered_within room d = has-number ((length d at_most room else Room) ∷ []) (taken d) refl tt
 
 -- the writers that a session has
 module _ (l : Log) (s : List ℕ) (room : ℕ) where
@@ -74,11 +75,11 @@ module _ (l : Log) (s : List ℕ) (room : ℕ) where
 
   pub numbered-heartbeat : HasNumber (heartbeat_reply l s room)
   unfolding heartbeat_reply
-  numbered-heartbeat = has-number ((hangs l s else 10) ∷ []) _ refl (numbered_within room (write (heartbeat_of (messages_in l s))))
+  numbered-heartbeat = has-number ((hangs l s else Broken) ∷ []) _ refl (numbered_within room (write (heartbeat_of (messages_in l s))))
 
   pub numbered-end : HasNumber (end_packet_reply l s room)
   unfolding end_packet_reply
-  numbered-end = has-number ((hangs l s else 10) ∷ (l.ended else 12) ∷ []) _ refl (numbered_within room (write (end_of (messages_in l s))))
+  numbered-end = has-number ((hangs l s else Broken) ∷ (l.ended else Contradiction) ∷ []) _ refl (numbered_within room (write (end_of (messages_in l s))))
 
 pub numbered-accept : (session : Name) (next room : ℕ) → HasNumber (accept_reply (name_bytes session) next room)
 numbered-accept session next room =
@@ -93,13 +94,13 @@ numbered-reject reason room =
 pub numbered-request : (first count room : ℕ) → count < 2 ^ 16 → HasNumber (reply (request first count) room)
 numbered-request first count room h =
     rw (reply-request first count room h)
-    (has-number (left_t first count) _ refl (has-number ((held first else 7) ∷ []) _ refl
+    (has-number (left_t first count) _ refl (has-number ((held first else Bound) ∷ []) _ refl
     (numbered_within room (frame (write_message (request first count))))))
 
 -- and opening a record
 pub numbered-opening : (session : Name) → HasNumber (opening session)
 numbered-opening session =
-    has-number ((text_then_spaces (name_bytes session) else 5) ∷ (not (blank (name_bytes session)) else 6) ∷ [])
+    has-number ((text_then_spaces (name_bytes session) else Form) ∷ (not (blank (name_bytes session)) else Absent) ∷ [])
     (taken (fresh (Ufo session))) refl tt
 
 -- and taking a datagram: a record of a UFO session, and so the record of every state
@@ -118,7 +119,7 @@ numbered-read d =
     (numbered-either (kind d is 65) _ _ (has-number (checks_a d) _ refl tt)
     (numbered-either (kind d is 74) _ _ (has-number (checks_j d) _ refl tt)
     (numbered-either (kind d is 83) _ _ (has-number (checks_s d) _ refl tt)
-    (numbered-either (kind d is 69) _ (refused 3) (has-number (checks_e d) _ refl tt) refl))))
+    (numbered-either (kind d is 69) _ (refused UnknownType) (has-number (checks_e d) _ refl tt) refl))))
 
 numbered-packet : (p : ufo.Packet) → HasNumber (of_ufo p)
 numbered-packet (ufo.accept session next) = refl

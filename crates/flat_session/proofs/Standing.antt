@@ -8,6 +8,7 @@ use mathlib.Core.Bool.{true, false}
 use native.Mathlib.Omega.{arith}
 use lib.ListN.{length}
 use Rattle.wire.specs.Checks.{Verdict, refused, taken, ◌else◌}
+use Rattle.wire.specs.declared.refusal.Refusal.TheVariants.{Broken}
 use Rattle.wire.proofs.Checks.{all-passed, taken-same}
 use Rattle.missing.specs.Missing.{◌to◌, ◌at◌}
 use Rattle.missing.specs.declared.Range.{Range}
@@ -67,7 +68,7 @@ all-ranges r (missing rs) e = sym (standing-means r (missing rs) e).0
 range_at_lem : (r : Record) (v : Standing) → standing r ≡ taken v → (place : ℕ) → range_at r place ≡ taken (ranges_of v at place)
 unfolding standing range_at
 range_at_lem r v e place =
-    let hung : hangs r ≡ true = (all-passed ((hangs r else 10) ∷ []) (taken (state r)) v e).0.0 in
+    let hung : hangs r ≡ true = (all-passed ((hangs r else Broken) ∷ []) (taken (state r)) v e).0.0 in
     rw (hung, all-ranges r v e)
 
 -- the record of every state hangs together, so that it stands somehow

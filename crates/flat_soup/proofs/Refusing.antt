@@ -10,6 +10,7 @@ use borrow.Author.Tests.{le-leb}
 use lib.ListN.{length, length-append}
 use Rattle.wire.specs.Checks.{◌is◌, ◌at_most◌, Verdict, refused, checked}
 use Rattle.wire.specs.Reply.{Reply, settle}
+use Rattle.wire.specs.declared.refusal.Refusal.TheVariants.{UnknownType, Framing}
 use Rattle.decimal.specs.Decimal.{written}
 use Rattle.soup.specs.Packet as soup
 use Rattle.soup.specs.Packet.{line_limit, line}
@@ -26,12 +27,12 @@ use Rattle.flat_packet.proofs.Refusing.{opened, unknown, beyond}
 -- a line of an unknown type; and one that goes on with a body
 module _ (A : Type 0) (d : List ℕ) (room : ℕ) where
   unknown-line : (size : ℕ) → length d ≡ size → 0 < size
-      → unfit line_limit size 3 ≡ settle {A = A} (opened (1 at_most length d) line_limit d (refused 3)) d room
+      → unfit line_limit size 3 ≡ settle {A = A} (opened (1 at_most length d) line_limit d (refused UnknownType)) d room
   unknown-line size l h = unknown A d room (1 at_most length d) line_limit size (le-leb 1 (length d) (omega arith)) l
 
   beyond-line : (size : ℕ) (body : List ℕ) (reply : Reply) (v : Verdict A) → length d ≡ size + length body → 0 < length body
       → alone line_limit size body reply
-      ≡ settle (opened (1 at_most length d) line_limit d (if length d is size then v else refused 4)) d room
+      ≡ settle (opened (1 at_most length d) line_limit d (if length d is size then v else refused Framing)) d room
   beyond-line size body reply v l h =
       beyond A d room (1 at_most length d) line_limit size (le-leb 1 (length d) (omega arith)) body reply v l h
 

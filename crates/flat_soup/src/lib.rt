@@ -17,8 +17,7 @@ use flat_packet::{Packet, Read};
 use soup::line;
 use soup::reading::Reading;
 use wire::kinds::{Password, Sequence};
-use wire::output::Written;
-use wire::refusal;
+use wire::refusal::Refusal;
 
 fn flat_of(said: Reading) -> Read
     ensures { result ≡ flat_soup said }
@@ -67,39 +66,39 @@ pub fn read(packet: &[u8]) -> Read
 }
 
 // The types that are their byte alone.
-fn bare_written(kind: u8, body: &[u8], out: &mut [u8]) -> Written
+fn bare_written(kind: u8, body: &[u8], out: &mut [u8]) -> Result<usize, Refusal>
     ensures { Settled (soup_bare kind body.now (length out.old)) out.old result out.new }
 {
     match kind {
         b'H' => {
             if body.len() != 0 {
-                return unfit(line::LONGEST, 2, body, refusal::FRAMING);
+                return unfit(line::LONGEST, 2, body, Refusal::Framing);
             }
             soup_write::write_server_heartbeat(out)
         }
         b'Z' => {
             if body.len() != 0 {
-                return unfit(line::LONGEST, 2, body, refusal::FRAMING);
+                return unfit(line::LONGEST, 2, body, Refusal::Framing);
             }
             soup_write::write_end_of_session(out)
         }
         b'R' => {
             if body.len() != 0 {
-                return unfit(line::LONGEST, 2, body, refusal::FRAMING);
+                return unfit(line::LONGEST, 2, body, Refusal::Framing);
             }
             soup_write::write_client_heartbeat(out)
         }
         b'O' => {
             if body.len() != 0 {
-                return unfit(line::LONGEST, 2, body, refusal::FRAMING);
+                return unfit(line::LONGEST, 2, body, Refusal::Framing);
             }
             soup_write::write_logout(out)
         }
-        _ => unfit(line::LONGEST, 2, body, refusal::UNKNOWN_TYPE),
+        _ => unfit(line::LONGEST, 2, body, Refusal::UnknownType),
     }
 }
 
-fn login_written(fields: Packet, out: &mut [u8]) -> Written
+fn login_written(fields: Packet, out: &mut [u8]) -> Result<usize, Refusal>
     ensures { Settled (reply (login fields.user fields.password fields.name fields.number) (length out.old))
         out.old result out.new }
 {
@@ -113,7 +112,7 @@ fn login_written(fields: Packet, out: &mut [u8]) -> Written
     soup_write::write_login(user, password, name, Sequence(number), out)
 }
 
-fn written(fields: Packet, body: &[u8], out: &mut [u8]) -> Written
+fn written(fields: Packet, body: &[u8], out: &mut [u8]) -> Result<usize, Refusal>
     ensures { Settled (soup_reply fields body.now (length out.old)) out.old result out.new }
 {
     let kind = fields.kind;
@@ -124,7 +123,7 @@ fn written(fields: Packet, body: &[u8], out: &mut [u8]) -> Written
         b'U' => soup_write::write_unsequenced(body, out),
         b'A' => {
             if body.len() != 0 {
-                return unfit(line::LONGEST, 32, body, refusal::FRAMING);
+                return unfit(line::LONGEST, 32, body, Refusal::Framing);
             }
             let text = fields.name;
             let name = name_of(&text);
@@ -132,14 +131,14 @@ fn written(fields: Packet, body: &[u8], out: &mut [u8]) -> Written
         }
         b'J' => {
             if body.len() != 0 {
-                return unfit(line::LONGEST, 3, body, refusal::FRAMING);
+                return unfit(line::LONGEST, 3, body, Refusal::Framing);
             }
             let reason = fields.reason;
             soup_write::write_reject(reason, out)
         }
         b'L' => {
             if body.len() != 0 {
-                return unfit(line::LONGEST, 48, body, refusal::FRAMING);
+                return unfit(line::LONGEST, 48, body, Refusal::Framing);
             }
             login_written(fields, out)
         }

@@ -15,8 +15,7 @@ use flat_packet::{Packet, Read};
 use ufo::down::Down;
 use wire::datagram::LIMIT;
 use wire::kinds::Sequence;
-use wire::output::Written;
-use wire::refusal;
+use wire::refusal::Refusal;
 
 // The packet has `size` bytes.
 fn flat_of(said: Down, size: u64) -> Read
@@ -37,7 +36,7 @@ pub fn read(packet: &[u8]) -> Read
     flat_of(ufo::down::read_down(packet), packet.len() as u64)
 }
 
-fn written(fields: Packet, body: &[u8], out: &mut [u8]) -> Written
+fn written(fields: Packet, body: &[u8], out: &mut [u8]) -> Result<usize, Refusal>
     ensures { Settled (down_reply fields body.now (length out.old))
         out.old result out.new }
 {
@@ -47,7 +46,7 @@ fn written(fields: Packet, body: &[u8], out: &mut [u8]) -> Written
     match kind {
         b'A' => {
             if body.len() != 0 {
-                return unfit(LIMIT, 15, body, refusal::FRAMING);
+                return unfit(LIMIT, 15, body, Refusal::Framing);
             }
             let text = fields.name;
             let name = name_of(&text);
@@ -55,7 +54,7 @@ fn written(fields: Packet, body: &[u8], out: &mut [u8]) -> Written
         }
         b'J' => {
             if body.len() != 0 {
-                return unfit(LIMIT, 2, body, refusal::FRAMING);
+                return unfit(LIMIT, 2, body, Refusal::Framing);
             }
             let reason = fields.reason;
             ufo_write::write_reject(reason, out)
@@ -63,11 +62,11 @@ fn written(fields: Packet, body: &[u8], out: &mut [u8]) -> Written
         b'S' => ufo_write::write_messages(Sequence(number), count, body, out),
         b'E' => {
             if body.len() != 0 {
-                return unfit(LIMIT, 5, body, refusal::FRAMING);
+                return unfit(LIMIT, 5, body, Refusal::Framing);
             }
             ufo_write::write_end(Sequence(number), out)
         }
-        _ => unfit(LIMIT, 1, body, refusal::UNKNOWN_TYPE),
+        _ => unfit(LIMIT, 1, body, Refusal::UnknownType),
     }
 }
 

@@ -13,6 +13,7 @@ use Rattle.wire.specs.Fields.{bytes_of, Bytes}
 use Rattle.wire.specs.Checks.{◌is◌, ◌at_most◌, ◌else◌, Check, checked, Passed, Verdict, refused, taken, ◌into◌}
 use Rattle.wire.specs.Datagram.{opening}
 use Rattle.wire.specs.Reply.{within}
+use Rattle.wire.specs.declared.refusal.Refusal.TheVariants.{Overlong, Framing, Bound}
 use Rattle.text.specs.Text.{blank}
 use Rattle.wire.proofs.Tests.{nonzero}
 use Rattle.wire.proofs.Numbered.{never-checked, never-taken, never-under, never-either}
@@ -89,7 +90,7 @@ record Found (s : List ℕ) (at place : ℕ) (m : Message) : Type 0 where
 found_from : (ms : List Message) (at place : ℕ) (m : Message) → FitAll ms → message_from at ms place ≡ taken m
     → Found (write_up ms) at place m
 unfolding message_from frames
-found_from [] at place m f e = not-both (refused 4) 4 m refl e
+found_from [] at place m f e = not-both (refused Framing) 4 m refl e
 found_from (x ∷ ms) at place m f e =
     let w = write_message x in
     let next = at + 2 + length w in
@@ -240,7 +241,7 @@ module _ (p : Packet) (f : Flat p) (body : List ℕ) (b : Bytes body) (room : �
   request-as =
       let n = p.number in
       let c = p.count in
-      alone-as (up.request n c) 7 (left_t n c ++ (held n else 7) ∷ [])
+      alone-as (up.request n c) 7 (left_t n c ++ (held n else Bound) ∷ [])
       (λ h. (nonzero n h.0, omega (arith, leb-true n highest h.1.1.0), nonzero c h.1.0, f.count))
       (simp (length-append, length-bytes_of)) (reply-request n c room f.count)
 
@@ -248,7 +249,7 @@ module _ (p : Packet) (f : Flat p) (body : List ℕ) (b : Bytes body) (room : �
   unsequenced-as e =
       let start : 2 + (1 + length body) - length body ≡ 3 = omega arith in
       let next : 2 + (1 + length body) ≡ 3 + length body = omega arith in
-      message-as (up.unsequenced body) (1 + length body) ((length body at_most 1469 else 2) ∷ [])
+      message-as (up.unsequenced body) (1 + length body) ((length body at_most 1469 else Overlong) ∷ [])
       (λ c. (b, leb-true (length body) 1469 c.0)) (omega arith) (sym (reply-unsequenced body room) ∙ e)
       ∙ rw (start, next)
 

@@ -17,8 +17,7 @@ use flat_packet::{Packet, Read};
 use ufo_up::up::{Up, Upstream};
 use wire::datagram::LIMIT;
 use wire::kinds::{Password, Sequence};
-use wire::output::Written;
-use wire::refusal;
+use wire::refusal::Refusal;
 
 // A packet of at most 1,472 bytes has no more messages than that.
 pub fn read(packet: &[u8]) -> Read
@@ -66,7 +65,7 @@ pub fn read_message(packet: &[u8], place: u64) -> Read
     flat_of(ufo_up::up::read_message(packet, place as usize))
 }
 
-fn login_written(fields: Packet, out: &mut [u8]) -> Written
+fn login_written(fields: Packet, out: &mut [u8]) -> Result<usize, Refusal>
     ensures { Settled (reply (login fields.user fields.password fields.name) (length out.old))
         out.old result out.new }
 {
@@ -79,7 +78,7 @@ fn login_written(fields: Packet, out: &mut [u8]) -> Written
     ufo_up_write::write_login(user, password, name, out)
 }
 
-fn written(fields: Packet, body: &[u8], out: &mut [u8]) -> Written
+fn written(fields: Packet, body: &[u8], out: &mut [u8]) -> Result<usize, Refusal>
     ensures { Settled (message_reply fields body.now (length out.old))
         out.old result out.new }
 {
@@ -89,30 +88,30 @@ fn written(fields: Packet, body: &[u8], out: &mut [u8]) -> Written
     match kind {
         b'L' => {
             if body.len() != 0 {
-                return unfit(LIMIT, 29, body, refusal::FRAMING);
+                return unfit(LIMIT, 29, body, Refusal::Framing);
             }
             login_written(fields, out)
         }
         b'T' => {
             if body.len() != 0 {
-                return unfit(LIMIT, 9, body, refusal::FRAMING);
+                return unfit(LIMIT, 9, body, Refusal::Framing);
             }
             ufo_up_write::write_request(Sequence(number), count, out)
         }
         b'U' => ufo_up_write::write_unsequenced(body, out),
         b'R' => {
             if body.len() != 0 {
-                return unfit(LIMIT, 3, body, refusal::FRAMING);
+                return unfit(LIMIT, 3, body, Refusal::Framing);
             }
             ufo_up_write::write_heartbeat(out)
         }
         b'O' => {
             if body.len() != 0 {
-                return unfit(LIMIT, 3, body, refusal::FRAMING);
+                return unfit(LIMIT, 3, body, Refusal::Framing);
             }
             ufo_up_write::write_logout(out)
         }
-        _ => unfit(LIMIT, 3, body, refusal::UNKNOWN_TYPE),
+        _ => unfit(LIMIT, 3, body, Refusal::UnknownType),
     }
 }
 

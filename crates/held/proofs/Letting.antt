@@ -15,13 +15,14 @@ use Rattle.held.specs.Releasing.{run, held_from, released, releasing, Settled}
 use Rattle.held.proofs.Bitmap.{none-full}
 use Rattle.held.proofs.Releases.{length-held, released-none}
 use Rattle.held.specs.declared.releasing.Released.TheVariants as gives
+use Rattle.wire.specs.declared.refusal.Refusal.TheVariants.{Room, Broken}
 
 module _ (held : ℕ) (area : List ℕ) (m at : ℕ) (out : List ℕ) where
-  pub broken-area : sound held area ≡ false → Settled (releasing held area m at (length out)) at out (gives.Refused 10) out
+  pub broken-area : sound held area ≡ false → Settled (releasing held area m at (length out)) at out (gives.Refused Broken) out
   broken-area e = rw e (record { answer = refl; bytes = refl })
 
   -- no room even for what stands before
-  pub no_room : sound held area ≡ true → length out < at → Settled (releasing held area m at (length out)) at out (gives.Refused 9) out
+  pub no_room : sound held area ≡ true → length out < at → Settled (releasing held area m at (length out)) at out (gives.Refused Room) out
   no_room e h = rw (e, lt-leb (at + length (frames (released held area m))) (length out) (omega arith))
       (record { answer = refl; bytes = refl })
 
@@ -35,7 +36,7 @@ module _ (held : ℕ) (area : List ℕ) (m at : ℕ) (out : List ℕ) where
 
   module _ (e : sound held area ≡ true) (k : ℕ) (q : k ≡ run 31 held m) where
     pub too-little : length out < at + length (frames (held_from k area m))
-        → Settled (releasing held area m at (length out)) at out (gives.Refused 9) out
+        → Settled (releasing held area m at (length out)) at out (gives.Refused Room) out
     too-little h = rw (e, lt-leb (at + length (frames (released held area m))) (length out) (rw q at h))
         (record { answer = refl; bytes = refl })
 

@@ -3,6 +3,7 @@
 use Rattle.std.specs.Prelude.{ℕ, zero, suc, ◌+◌, ◌≤◌, ◌<◌, ◌≡◌, List, [], ◌∷◌, length, if◌then◌else◌}
 use Rattle.std.proofs.lemmas.List.Edits.{sets}
 use Rattle.wire.specs.Checks.{◌at_most◌, Verdict, refused, taken, ◌else◌, checked}
+use Rattle.wire.specs.declared.refusal.Refusal.TheVariants.{Room, Broken}
 use Rattle.blocks.specs.Blocks.{frames, stated}
 use Rattle.held.specs.Slots.{area_size, longest, slot_of, full, slot_at, held_message}
 use Rattle.held.specs.Hanging.{sound}
@@ -33,7 +34,7 @@ released held area m = held_from (run 31 held m) area m
 abbrev pub releasing : (held : ℕ) → List ℕ → (m at room : ℕ) → Verdict (List (List ℕ))
 releasing held area m at room =
     checked
-    ((sound held area else 10) ∷ (at + length (frames (released held area m)) at_most room else 9) ∷ [])
+    ((sound held area else Broken) ∷ (at + length (frames (released held area m)) at_most room else Room) ∷ [])
     (taken (released held area m))
 
 abbrev pub released_of : Verdict (List (List ℕ)) → Released

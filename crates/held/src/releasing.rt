@@ -6,11 +6,12 @@ ghost use Rattle.held.specs.Releasing.{run, held_from, Fitting, releasing, Settl
 
 use crate::hanging::is_sound;
 use crate::slots;
-use wire::{fields, output, refusal};
+use wire::refusal::Refusal;
+use wire::{fields, output};
 
 #[derive(Clone, Copy)]
 pub enum Released {
-    Refused(u8),
+    Refused(Refusal),
     Messages { messages: u32, bytes: usize },
 }
 
@@ -69,10 +70,10 @@ pub fn release(held: u32, number: u64, area: &[u8], out: &mut [u8], at: usize) -
         at out.old result out.new }
 {
     if !is_sound(held, area) {
-        return Released::Refused(refusal::BROKEN);
+        return Released::Refused(Refusal::Broken);
     }
     if out.len() < at {
-        return Released::Refused(refusal::ROOM);
+        return Released::Refused(Refusal::Room);
     }
     if held == 0 {
         return Released::Messages {
@@ -83,7 +84,7 @@ pub fn release(held: u32, number: u64, area: &[u8], out: &mut [u8], at: usize) -
     let messages = run(held, number);
     let bytes = size(number, messages, area);
     if out.len() - at < bytes {
-        return Released::Refused(refusal::ROOM);
+        return Released::Refused(Refusal::Room);
     }
     lay(number, messages, area, out, at);
     Released::Messages { messages, bytes }

@@ -7,6 +7,7 @@ use mathlib.Core.Bool.{true}
 use Rattle.wire.specs.Fields.{Bytes}
 use Rattle.wire.specs.Checks.{taken, ◌else◌}
 use Rattle.wire.specs.Reply.{within}
+use Rattle.wire.specs.declared.refusal.Refusal.TheVariants.{Broken, Contradiction}
 use Rattle.wire.proofs.Checks.{all-passed, taken-same}
 use Rattle.wire.proofs.Settling.{within-taken}
 use Rattle.wire.proofs.Tests.{nonzero}
@@ -41,11 +42,11 @@ module _ (l : Log) (s : List ℕ) (room : ℕ) (d : List ℕ) where
   pub beaten : heartbeat_reply l s room ≡ taken d → Gives d (heartbeat_of held)
   unfolding heartbeat_reply
   beaten e =
-      let q = all-passed ((hangs l s else 10) ∷ []) (within room (write (heartbeat_of held))) d e in
+      let q = all-passed ((hangs l s else Broken) ∷ []) (within room (write (heartbeat_of held))) d e in
       gives d (heartbeat_of held) (within-taken room (write (heartbeat_of held)) d q.1) (beat-fits held (few-in l s q.0.0))
 
   pub ended : end_packet_reply l s room ≡ taken d → (l.ended ≡ true) × Gives d (end_of held)
   unfolding end_packet_reply
   ended e =
-      let q = all-passed ((hangs l s else 10) ∷ (l.ended else 12) ∷ []) (within room (write (end_of held))) d e in
+      let q = all-passed ((hangs l s else Broken) ∷ (l.ended else Contradiction) ∷ []) (within room (write (end_of held))) d e in
       (q.0.1.0, gives d (end_of held) (within-taken room (write (end_of held)) d q.1) (end_fits held (few-in l s q.0.0)))

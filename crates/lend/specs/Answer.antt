@@ -4,6 +4,7 @@ use Rattle.std.specs.Prelude.{ℕ, zero, suc, ◌+◌, ◌-◌, List, [], ◌∷
 use Rattle.wire.specs.Checks.{◌is◌, ◌at_most◌, taken, Check, ◌else◌, checked}
 use Rattle.wire.specs.Datagram.{limit}
 use Rattle.wire.specs.Reply.{Reply, within}
+use Rattle.wire.specs.declared.refusal.Refusal.TheVariants.{Absent, Room, Broken, Contradiction}
 use Rattle.blocks.specs.Blocks.{end_at}
 use Rattle.ufo.specs.Down.{Packet, messages, end, write}
 use Rattle.lent_log.specs.Log.{messages_in, hangs}
@@ -44,10 +45,10 @@ answer_to ended ms f c =
 -- a request that may be answered: it names a number and a count, and there is room for any packet
 abbrev pub answerable : Log → List ℕ → ℕ → ℕ → ℕ → List Check
 answerable l s f c room =
-    (hangs l s else 10)
-    ∷ (not (f is 0) else 6)
-    ∷ (not (c is 0) else 6)
-    ∷ (limit at_most room else 9)
+    (hangs l s else Broken)
+    ∷ (not (f is 0) else Absent)
+    ∷ (not (c is 0) else Absent)
+    ∷ (limit at_most room else Room)
     ∷ []
 
 -- what is laid into lent output of so much room; Given shows that it is a lawful packet, which the reader takes
@@ -56,11 +57,11 @@ answer_reply l s f c room =
     checked (answerable l s f c room) (taken (write (answer_to l.ended (messages_in l s) f c)))
 
 unfoldable pub heartbeat_reply : Log → List ℕ → ℕ → Reply
-heartbeat_reply l s room = checked ((hangs l s else 10) ∷ []) (within room (write (heartbeat_of (messages_in l s))))
+heartbeat_reply l s room = checked ((hangs l s else Broken) ∷ []) (within room (write (heartbeat_of (messages_in l s))))
 
 unfoldable pub end_packet_reply : Log → List ℕ → ℕ → Reply
 end_packet_reply l s room =
-    checked ((hangs l s else 10) ∷ (l.ended else 12) ∷ []) (within room (write (end_of (messages_in l s))))
+    checked ((hangs l s else Broken) ∷ (l.ended else Contradiction) ∷ []) (within room (write (end_of (messages_in l s))))
 
 -- the pass that counts them: after k blocks of s, which ended at p, c more at most, while all lie within what the header leaves of a
 -- packet, from the place `at` on; Measuring shows that it finds the greatest number of them

@@ -13,8 +13,7 @@ use blocks::{Block, Place};
 use lent_log::Log;
 use wire::datagram::LIMIT;
 use wire::kinds::Sequence;
-use wire::output::Written;
-use wire::refusal;
+use wire::refusal::Refusal;
 
 // Blocks one after the other: how many, and the place where the last of them ends.
 #[derive(Clone, Copy)]
@@ -51,7 +50,7 @@ fn measure(s: &[u8], at: usize, count: u16) -> Run
 }
 
 // Sends messages that the log has, from a number on: as many as one packet can carry.
-fn send(log: Log, bytes: &[u8], first: Sequence, count: u16, out: &mut [u8]) -> Written
+fn send(log: Log, bytes: &[u8], first: Sequence, count: u16, out: &mut [u8]) -> Result<usize, Refusal>
     requires { (hangs log bytes.now ≡ true) × (0 < first.0) × (first.0 ≤ log.count) × (limit ≤ length out.old) }
     ensures { Settled (taken (write (packed (messages_in log bytes.now) first.0 count)))
         out.old result out.new }
@@ -65,27 +64,27 @@ fn send(log: Log, bytes: &[u8], first: Sequence, count: u16, out: &mut [u8]) -> 
             let end = run.end;
             ufo_write::write_messages(first, run.count, &held[at..end], out)
         }
-        Place::Refused(n) => Written::Refused(n),
+        Place::Refused(n) => Err(n),
     }
 }
 
 // Answers a request for `count` messages from number `first` on.
-pub fn answer(log: Log, bytes: &[u8], first: Sequence, count: u16, out: &mut [u8]) -> Written
+pub fn answer(log: Log, bytes: &[u8], first: Sequence, count: u16, out: &mut [u8]) -> Result<usize, Refusal>
     ensures { Settled (answer_reply log bytes.now first.0 count (length out.old))
         out.old result out.new }
 {
     if !lent_log::hangs_together(log, bytes) {
-        return Written::Refused(refusal::BROKEN);
+        return Err(Refusal::Broken);
     }
     let number = first.0;
     if number == 0 {
-        return Written::Refused(refusal::ABSENT);
+        return Err(Refusal::Absent);
     }
     if count == 0 {
-        return Written::Refused(refusal::ABSENT);
+        return Err(Refusal::Absent);
     }
     if out.len() < LIMIT {
-        return Written::Refused(refusal::ROOM);
+        return Err(Refusal::Room);
     }
     let total = log.count;
     if number <= total {
@@ -98,27 +97,27 @@ pub fn answer(log: Log, bytes: &[u8], first: Sequence, count: u16, out: &mut [u8
     ufo_write::write_messages(Sequence(total + 1), 0, &bytes[..0], out)
 }
 
-pub fn heartbeat(log: Log, bytes: &[u8], out: &mut [u8]) -> Written
+pub fn heartbeat(log: Log, bytes: &[u8], out: &mut [u8]) -> Result<usize, Refusal>
     ensures { Settled (heartbeat_reply log bytes.now (length out.old))
         out.old result out.new }
 {
     if !lent_log::hangs_together(log, bytes) {
-        return Written::Refused(refusal::BROKEN);
+        return Err(Refusal::Broken);
     }
     let total = log.count;
     ufo_write::write_messages(Sequence(total + 1), 0, &bytes[..0], out)
 }
 
-pub fn end_packet(log: Log, bytes: &[u8], out: &mut [u8]) -> Written
+pub fn end_packet(log: Log, bytes: &[u8], out: &mut [u8]) -> Result<usize, Refusal>
     ensures { Settled (end_packet_reply log bytes.now (length out.old))
         out.old result out.new }
 {
     if !lent_log::hangs_together(log, bytes) {
-        return Written::Refused(refusal::BROKEN);
+        return Err(Refusal::Broken);
     }
     let ended = log.ended;
     if !ended {
-        return Written::Refused(refusal::CONTRADICTION);
+        return Err(Refusal::Contradiction);
     }
     let total = log.count;
     ufo_write::write_end(Sequence(total), out)

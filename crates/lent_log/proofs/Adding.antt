@@ -11,6 +11,7 @@ use lib.Seq.{take_at, drop_at, length-take-le}
 use lib.Dec.{leb}
 use Rattle.wire.specs.Checks.{taken, ◌else◌, Passed}
 use Rattle.wire.specs.Fields.{Bytes}
+use Rattle.wire.specs.declared.refusal.Refusal.TheVariants.{Framing}
 use Rattle.wire.proofs.Checks.{all-passed}
 use Rattle.wire.proofs.Width.{bytes_drop, bytes_take, bytes-append}
 use Rattle.blocks.specs.Blocks.{frames, whole, is_whole, messages_of, Each, Short}
@@ -118,7 +119,7 @@ module _ (l : Log) (s : List ℕ) (k : Kept) where
   unfolding adding_many
   added-many f e =
       let ms = messages_of (to_the_end f) in
-      let p = all-passed (growing l s ++ ((is_whole (to_the_end f) else 4) ∷ fitting l s ms)) (taken (extended l s ms)) k e in
+      let p = all-passed (growing l s ++ ((is_whole (to_the_end f) else Framing) ∷ fitting l s ms)) (taken (extended l s ms)) k e in
       let f = fits l s ms (p.0.0, (p.0.1.0, tt)) p.0.1.1.1 in
       let is : extended l s ms ≡ k = cc p.1 in
       (f, sym is, rw is at (grown l s ms f))

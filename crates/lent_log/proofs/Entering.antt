@@ -10,6 +10,7 @@ use lib.ListN.{length, take, drop}
 use lib.Seq.{sets, take-length}
 use Rattle.wire.specs.Checks.{Verdict, refused, taken, Check, ◌else◌, checked}
 use Rattle.wire.specs.Fields.{Bytes, bytes_of}
+use Rattle.wire.specs.declared.refusal.Refusal.TheVariants.{Overlong, Framing, Bound, Room, Broken, AfterEnd}
 use Rattle.wire.proofs.Settling.{stored_at}
 use Rattle.blocks.specs.Blocks.{frames, whole, messages_of}
 use Rattle.blocks.proofs.Frames.{length-one, stored_one}
@@ -34,14 +35,14 @@ module _ (l : Log) (s : List ℕ) (v : Verdict Kept) where
   grows cs h e = rw (h, e)
 
   module _ (ms : List (List ℕ)) where
-    pub too_long : small ms ≡ false → checked (fitting l s ms) v ≡ refused 2
+    pub too_long : small ms ≡ false → checked (fitting l s ms) v ≡ refused Overlong
     too_long z = rw z
 
     module _ (z : small ms ≡ true) where
-      pub too_many : 2 ^ 32 - 2 < l.count + length ms → checked (fitting l s ms) v ≡ refused 7
+      pub too_many : 2 ^ 32 - 2 < l.count + length ms → checked (fitting l s ms) v ≡ refused Bound
       too_many h = rw (z, lt-leb (l.count + length ms) (2 ^ 32 - 2) h)
 
-      pub no_room : l.count + length ms ≤ 2 ^ 32 - 2 → length s < l.used + length (frames ms) → checked (fitting l s ms) v ≡ refused 9
+      pub no_room : l.count + length ms ≤ 2 ^ 32 - 2 → length s < l.used + length (frames ms) → checked (fitting l s ms) v ≡ refused Room
       no_room h k =
           rw (z, le-leb (l.count + length ms) (2 ^ 32 - 2) h, lt-leb (l.used + length (frames ms)) (length s) k)
 
@@ -55,7 +56,7 @@ module _ (l : Log) (s : List ℕ) (ms : List (List ℕ)) (f : Fits l s ms) where
   unfolding adding_many
   takes-many b e =
       let v = taken (extended l s ms) in
-      rw e (grows l s v ((true else 4) ∷ fitting l s ms) f.hung f.goes_on ∙ taken-all v)
+      rw e (grows l s v ((true else Framing) ∷ fitting l s ms) f.hung f.goes_on ∙ taken-all v)
 
 pub takes_one : (l : Log) (s m : List ℕ) → Fits l s (m ∷ []) → adding l s m ≡ taken (extended l s (m ∷ []))
 unfolding adding
@@ -73,12 +74,12 @@ big-one m h = rw (lt-leb (length m) 1463 h)
 
 -- a message is added: each answer, by the tests that lead to it
 module _ (l : Log) (s m : List ℕ) where
-  pub one-broken : hangs l s ≡ false → adding l s m ≡ refused 10
+  pub one-broken : hangs l s ≡ false → adding l s m ≡ refused Broken
   unfolding adding
   one-broken h = rw h
 
   module _ (h : hangs l s ≡ true) where
-    pub one-late : l.ended ≡ true → adding l s m ≡ refused 13
+    pub one-late : l.ended ≡ true → adding l s m ≡ refused AfterEnd
     unfolding adding
     one-late e = rw (h, e)
 
@@ -87,18 +88,18 @@ module _ (l : Log) (s m : List ℕ) where
       unfolding adding
       one-open = grows l s _ (fitting l s (m ∷ [])) h e
 
-      pub one-long : 1463 < length m → adding l s m ≡ refused 2
+      pub one-long : 1463 < length m → adding l s m ≡ refused Overlong
       one-long k = one-open ∙ too_long l s _ (m ∷ []) (big-one m k)
 
       module _ (k : length m ≤ 1463) where
-        pub one-over : l.count ≡ 2 ^ 32 - 2 → adding l s m ≡ refused 7
+        pub one-over : l.count ≡ 2 ^ 32 - 2 → adding l s m ≡ refused Bound
         one-over f = one-open ∙ too_many l s _ (m ∷ []) (small_one m k) (omega arith)
 
         module _ (f : (l.count ≡ 2 ^ 32 - 2) → ⊥) where
           counts-one : l.count + 1 ≤ 2 ^ 32 - 2
           counts-one = let b = (hanging l s h).count in omega arith
 
-          pub one-crowded : length s - l.used < 2 + length m → adding l s m ≡ refused 9
+          pub one-crowded : length s - l.used < 2 + length m → adding l s m ≡ refused Room
           one-crowded r =
               let b = (hanging l s h).mark in
               let z = length-one m in
@@ -120,12 +121,12 @@ module _ (l : Log) (s m : List ℕ) where
 
 -- and many of them, whose blocks are b
 module _ (l : Log) (s b : List ℕ) where
-  pub many-broken : hangs l s ≡ false → adding_many l s b ≡ refused 10
+  pub many-broken : hangs l s ≡ false → adding_many l s b ≡ refused Broken
   unfolding adding_many
   many-broken h = rw h
 
   module _ (h : hangs l s ≡ true) where
-    pub many-late : l.ended ≡ true → adding_many l s b ≡ refused 13
+    pub many-late : l.ended ≡ true → adding_many l s b ≡ refused AfterEnd
     unfolding adding_many
     many-late e = rw (h, e)
 
@@ -137,7 +138,7 @@ module _ (l : Log) (s b : List ℕ) where
       unfolding adding_many many
       many-open = rw (h, e, t.cuts)
 
-      pub many-over : 2 ^ 32 - 2 - l.count < n → adding_many l s b ≡ refused 7
+      pub many-over : 2 ^ 32 - 2 - l.count < n → adding_many l s b ≡ refused Bound
       unfolding many
       many-over k = let c = (hanging l s h).count in let z = t.number in many-open ∙ too_many l s _ many t.sizes (omega arith)
 
@@ -150,7 +151,7 @@ module _ (l : Log) (s b : List ℕ) where
         unfolding many
         are-blocks = frames-all b many bs t.cuts
 
-        pub many-crowded : length s - l.used < length b → adding_many l s b ≡ refused 9
+        pub many-crowded : length s - l.used < length b → adding_many l s b ≡ refused Room
         unfolding many
         many-crowded r = many-open ∙ no_room l s _ many t.sizes counts-many (rw are-blocks (let m = (hanging l s h).mark in omega arith))
 

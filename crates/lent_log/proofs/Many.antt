@@ -11,6 +11,7 @@ use lib.ListN.{length}
 use lib.Dec.{eqb}
 use Rattle.wire.specs.Fields.{Bytes}
 use Rattle.wire.specs.Checks.{refused}
+use Rattle.wire.specs.declared.refusal.Refusal.TheVariants.{Overlong, Framing}
 use Rattle.wire.proofs.Tests.{by-test, impossible}
 use Rattle.blocks.specs.Blocks.{frames, there, first, rest, Cut, torn, whole, cut, messages_of, Each, Short}
 use Rattle.blocks.specs.declared.Count.TheVariants as count
@@ -70,15 +71,15 @@ counted torn n e = impossible cc
 counted (whole ms) n e =
     by-test (small ms)
     (λ z. let f : count.Blocks (length ms) ≡ count.Blocks n = rw z at e in record { cuts = refl; sizes = z; number = cc f })
-    (λ z. let f : count.Refused 2 ≡ count.Blocks n = rw z at e in impossible (cc f))
+    (λ z. let f : count.Refused Overlong ≡ count.Blocks n = rw z at e in impossible (cc f))
 
 pub not-counted : (l : Log) (s f : List ℕ) (n : ℕ) → hangs l s ≡ true → l.ended ≡ false → tallied (to_the_end f) ≡ count.Refused n
     → adding_many l s f ≡ refused n
 unfolding adding_many
 not-counted l s f n h g e = by (to_the_end f) refl where
   by : (q : Cut) → to_the_end f ≡ q → adding_many l s f ≡ refused n
-  by torn q = let r : count.Refused 4 ≡ count.Refused n = rw q at e in let v : 4 ≡ n = cc r in rw (h, g, q, v)
+  by torn q = let r : count.Refused Framing ≡ count.Refused n = rw q at e in let v : 4 ≡ n = cc r in rw (h, g, q, v)
   by (whole ms) q =
       by-test (small ms)
       (λ z. let r : count.Blocks (length ms) ≡ count.Refused n = rw (q, z) at e in cc r)
-      (λ z. let r : count.Refused 2 ≡ count.Refused n = rw (q, z) at e in let v : 2 ≡ n = cc r in rw (h, g, q, z, v))
+      (λ z. let r : count.Refused Overlong ≡ count.Refused n = rw (q, z) at e in let v : 2 ≡ n = cc r in rw (h, g, q, z, v))

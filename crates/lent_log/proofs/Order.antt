@@ -6,6 +6,7 @@ use mathlib.Core.Path.{◌≡◌, refl}
 use mathlib.Core.Bool.{true}
 use mathlib.Core.List.{List, [], ◌∷◌, ◌++◌}
 use Rattle.wire.specs.Checks.{Verdict, taken, Check, ◌else◌, checked, in_order}
+use Rattle.wire.specs.declared.refusal.Refusal.TheVariants.{Framing}
 use Rattle.blocks.specs.Blocks.{is_whole, messages_of}
 use Rattle.lent_log.specs.Log.{Kept, extended, growing, fitting, adding, to_the_end, adding_many, declaring}
 use Rattle.lent_log.specs.declared.Log.{Log}
@@ -21,7 +22,7 @@ module _ (l : Log) (s : List ℕ) where
   adding-in-order m = (refl, refl)
 
   pub adding-many-in-order : (framed : List ℕ) → let ms = messages_of (to_the_end framed) in
-      Checked (adding_many l s framed) (growing l s ++ ((is_whole (to_the_end framed) else 4) ∷ fitting l s ms)) (extended l s ms)
+      Checked (adding_many l s framed) (growing l s ++ ((is_whole (to_the_end framed) else Framing) ∷ fitting l s ms)) (extended l s ms)
       (10 ∷ 13 ∷ 4 ∷ 2 ∷ 7 ∷ 9 ∷ [])
   unfolding adding_many
   adding-many-in-order framed = (refl, refl)

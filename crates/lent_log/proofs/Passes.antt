@@ -11,6 +11,7 @@ use borrow.Author.Tests.{le-leb, lt-leb, eq-eqb, ne_eqb}
 use lib.ListN.{length, drop, length-drop}
 use lib.Dec.{leb, eqb}
 use Rattle.wire.specs.Checks.{◌at_most◌}
+use Rattle.wire.specs.declared.refusal.Refusal.TheVariants.{Overlong, Framing}
 use Rattle.wire.proofs.Tests.{by-test}
 use Rattle.blocks.specs.Blocks.{stated, first, Cut, torn, whole, before, cut, is_whole, end_at, block_at}
 use Rattle.blocks.specs.declared.Block.TheVariants as block
@@ -26,8 +27,8 @@ turn n k h = omega arith
 
 -- how many messages, after k that were counted before, and small only if those were
 abbrev pub tally_from : ℕ → Bool → Cut → Count
-tally_from k b torn = count.Refused 4
-tally_from k b (whole ms) = if b && small ms then count.Blocks (k + length ms) else count.Refused 2
+tally_from k b torn = count.Refused Framing
+tally_from k b (whole ms) = if b && small ms then count.Blocks (k + length ms) else count.Refused Overlong
 
 pub tally-starts : (q : Cut) → tallied q ≡ tally_from 0 true q
 tally-starts torn = refl
@@ -82,12 +83,12 @@ module _ (s : List ℕ) (p : ℕ) where
   sound-end i = sound-zero (drop p s) ∙ rw (le-leb p (length s) i) at (fills-end s p)
 
   pub tally-torn : (n k : ℕ) (b : Bool) → p < length s → length s < end_at s p → tally_from k b (cut_all (suc n) (drop p s))
-      ≡ count.Refused 4
+      ≡ count.Refused Framing
   unfolding cut_all
   tally-torn n k b i h = rw (ne_eqb (length (drop p s)) 0 (λ e. omega (arith, rw length-drop at e)), not_there s p h)
 
   pub tally-end : (n k : ℕ) (b v : Bool) → b ≡ v → length s ≤ p
-      → tally_from k b (cut_all (suc n) (drop p s)) ≡ (if v then count.Blocks k else count.Refused 2)
+      → tally_from k b (cut_all (suc n) (drop p s)) ≡ (if v then count.Blocks k else count.Refused Overlong)
   unfolding cut_all small
   tally-end n k b v e h = rw (eq-eqb (length (drop p s)) 0 (rw length-drop (omega arith)), e)
       (by-test v (λ t. rw (t, add-zero k)) (λ t. rw t))

@@ -3,6 +3,7 @@
 use Rattle.std.specs.Prelude.{ℕ, zero, suc, ◌+◌, ◌-◌, ◌^◌, ◌≡◌, List, [], ◌∷◌, ◌++◌, Bool, true, not, ◌&&◌, length, take, drop}
 use Rattle.std.specs.Prelude.{if◌then◌else◌}
 use Rattle.wire.specs.Checks.{◌is◌, ◌at_most◌, Verdict, refused, taken, Check, ◌else◌, checked}
+use Rattle.wire.specs.declared.refusal.Refusal.TheVariants.{Overlong, Framing, Bound, Room, Broken, AfterEnd}
 use Rattle.blocks.specs.Blocks.{frames, there, first, rest, Cut, torn, whole, before, cut, is_whole, messages_of}
 use Rattle.blocks.specs.declared.Count.{Count}
 use Rattle.blocks.specs.declared.Count.TheVariants as count
@@ -48,14 +49,14 @@ extended l s ms = record {
 
 -- a log to which messages and the end may be added
 abbrev pub growing : Log → List ℕ → List Check
-growing l s = (hangs l s else 10) ∷ (not l.ended else 13) ∷ []
+growing l s = (hangs l s else Broken) ∷ (not l.ended else AfterEnd) ∷ []
 
 -- messages that may be added to it: small, not too many, and with room after the mark
 abbrev pub fitting : Log → List ℕ → List (List ℕ) → List Check
 fitting l s ms =
-    (small ms else 2)
-    ∷ (l.count + length ms at_most 2 ^ 32 - 2 else 7)
-    ∷ (l.used + length (frames ms) at_most length s else 9)
+    (small ms else Overlong)
+    ∷ (l.count + length ms at_most 2 ^ 32 - 2 else Bound)
+    ∷ (l.used + length (frames ms) at_most length s else Room)
     ∷ []
 
 -- adding a message; Adding shows that it follows those that were there, Order in which order it is refused
@@ -77,7 +78,7 @@ to_the_end s = cut_all (suc (length s)) s
 unfoldable pub adding_many : Log → List ℕ → List ℕ → Verdict Kept
 adding_many l s framed =
     let ms = messages_of (to_the_end framed) in
-    checked (growing l s ++ ((is_whole (to_the_end framed) else 4) ∷ fitting l s ms)) (taken (extended l s ms))
+    checked (growing l s ++ ((is_whole (to_the_end framed) else Framing) ∷ fitting l s ms)) (taken (extended l s ms))
 
 -- declaring the end
 unfoldable pub declaring : Log → List ℕ → Verdict Kept
@@ -86,8 +87,8 @@ declaring l s =
 
 -- how many messages there are, or why they can't be added
 abbrev pub tallied : Cut → Count
-tallied torn = count.Refused 4
-tallied (whole ms) = if small ms then count.Blocks (length ms) else count.Refused 2
+tallied torn = count.Refused Framing
+tallied (whole ms) = if small ms then count.Blocks (length ms) else count.Refused Overlong
 
 -- the answer
 abbrev pub logged_of : Verdict Kept → Logged

@@ -6,7 +6,8 @@ ghost use Rattle.blocks.specs.Blocks.{cut};
 ghost use Rattle.lent_log.specs.Log.{sound, hangs, to_the_end, tallied, Entered, adding, adding_many, declaring, logged_of};
 
 use blocks::{Block, Count};
-use wire::{fields, output, refusal};
+use wire::refusal::Refusal;
+use wire::{fields, output};
 
 // The longest message that a packet can carry.
 pub const LONGEST_MESSAGE: usize = 1463;
@@ -25,7 +26,7 @@ pub struct Log {
 // The log afterwards.
 #[derive(Clone, Copy)]
 pub enum Logged {
-    Refused(u8),
+    Refused(Refusal),
     After(Log),
 }
 
@@ -75,23 +76,23 @@ pub fn add(log: Log, bytes: &mut [u8], message: &[u8]) -> Logged
     ensures { Entered (adding log bytes.old message.now) bytes.old result bytes.new }
 {
     if !hangs_together(log, bytes) {
-        return Logged::Refused(refusal::BROKEN);
+        return Logged::Refused(Refusal::Broken);
     }
     let ended = log.ended;
     if ended {
-        return Logged::Refused(refusal::AFTER_END);
+        return Logged::Refused(Refusal::AfterEnd);
     }
     let len = message.len();
     if LONGEST_MESSAGE < len {
-        return Logged::Refused(refusal::OVERLONG);
+        return Logged::Refused(Refusal::Overlong);
     }
     let count = log.count;
     if count == MOST_MESSAGES {
-        return Logged::Refused(refusal::BOUND);
+        return Logged::Refused(Refusal::Bound);
     }
     let used = log.used;
     if bytes.len() - used < 2 + len {
-        return Logged::Refused(refusal::ROOM);
+        return Logged::Refused(Refusal::Room);
     }
     fields::put2(bytes, used, len as u16);
     output::copy(bytes, used + 2, message, 0, len);
@@ -126,7 +127,7 @@ fn tally(s: &[u8]) -> Count
         }
     }
     if !small {
-        return Count::Refused(refusal::OVERLONG);
+        return Count::Refused(Refusal::Overlong);
     }
     Count::Blocks(count)
 }
@@ -136,23 +137,23 @@ pub fn add_many(log: Log, bytes: &mut [u8], framed: &[u8]) -> Logged
     ensures { Entered (adding_many log bytes.old framed.now) bytes.old result bytes.new }
 {
     if !hangs_together(log, bytes) {
-        return Logged::Refused(refusal::BROKEN);
+        return Logged::Refused(Refusal::Broken);
     }
     let ended = log.ended;
     if ended {
-        return Logged::Refused(refusal::AFTER_END);
+        return Logged::Refused(Refusal::AfterEnd);
     }
     match tally(framed) {
         Count::Refused(n) => Logged::Refused(n),
         Count::Blocks(more) => {
             let count = log.count;
             if MOST_MESSAGES - count < more as u64 {
-                return Logged::Refused(refusal::BOUND);
+                return Logged::Refused(Refusal::Bound);
             }
             let used = log.used;
             let len = framed.len();
             if bytes.len() - used < len {
-                return Logged::Refused(refusal::ROOM);
+                return Logged::Refused(Refusal::Room);
             }
             output::copy(bytes, used, framed, 0, len);
             Logged::After(Log {
@@ -168,11 +169,11 @@ pub fn declare_end(log: Log, bytes: &[u8]) -> Logged
     ensures { result ≡ logged_of (declaring log bytes.now) }
 {
     if !hangs_together(log, bytes) {
-        return Logged::Refused(refusal::BROKEN);
+        return Logged::Refused(Refusal::Broken);
     }
     let ended = log.ended;
     if ended {
-        return Logged::Refused(refusal::AFTER_END);
+        return Logged::Refused(Refusal::AfterEnd);
     }
     Logged::After(Log {
         count: log.count,

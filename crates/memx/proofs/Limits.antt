@@ -8,6 +8,7 @@ use borrow.Author.Tests.{lt-leb, ne_eqb}
 use lib.ListN.{length}
 use Rattle.wire.specs.Fields.{Bytes}
 use Rattle.wire.specs.Checks.{refused, taken}
+use Rattle.wire.specs.declared.refusal.Refusal.TheVariants.{Overlong}
 use Rattle.blocks.proofs.Frames.{length-one}
 use Rattle.memx.specs.Packet.{messages, limit, header_size, write}
 use Rattle.memx.specs.Read.{read}
@@ -18,7 +19,7 @@ use Rattle.memx.proofs.Exact.{written-is-read}
 pub longest-fills-a-packet : limit ≡ header_size + 2 + 2 + 8950
 longest-fills-a-packet = refl
 
-pub overlong-is-2 : (d : List ℕ) → limit < length d → read d ≡ refused 2
+pub overlong-is-2 : (d : List ℕ) → limit < length d → read d ≡ refused Overlong
 unfolding read
 overlong-is-2 d h = rw (ne_eqb (length d) 0 (λ e. omega arith), lt-leb (length d) limit h)
 
@@ -43,5 +44,5 @@ module _ (session first : ℕ) (m : List ℕ) where
         size = omega arith;
       })
 
-  pub one-byte-longer : 8950 < length m → read (write (messages session first [] (m ∷ []))) ≡ refused 2
+  pub one-byte-longer : 8950 < length m → read (write (messages session first [] (m ∷ []))) ≡ refused Overlong
   one-byte-longer l = let n = size in overlong-is-2 (write (messages session first [] (m ∷ []))) (omega arith)

@@ -6,6 +6,7 @@ use mathlib.Core.List.{List, [], ◌∷◌, ◌++◌}
 use lib.ListN.{length}
 use Rattle.wire.specs.Fields.{be}
 use Rattle.wire.specs.Checks.{refused, taken}
+use Rattle.wire.specs.declared.refusal.Refusal.TheVariants.{Framing, Form}
 use Rattle.blocks.specs.Blocks.{cut}
 use Rattle.memx.specs.Packet.{heartbeat, messages}
 use Rattle.memx.specs.Read.{read_news, read_messages, read}
@@ -35,7 +36,7 @@ pub example-read : read example ≡ taken (messages 1 6 [] (fox ∷ dog ∷ []))
 unfolding read read_messages be cut
 example-read = refl
 
-pub one-byte-more : read (example ++ 0 ∷ []) ≡ refused 4
+pub one-byte-more : read (example ++ 0 ∷ []) ≡ refused Framing
 unfolding read read_messages be cut
 one-byte-more = refl
 
@@ -43,7 +44,7 @@ pub heartbeat-zero : read (0 ∷ 18 ∷ eight 1 ++ eight 0) ≡ taken (heartbeat
 unfolding read read_news be
 heartbeat-zero = refl
 
-pub header-short : read (0 ∷ 17 ∷ eight 1 ++ eight 0) ≡ refused 5
+pub header-short : read (0 ∷ 17 ∷ eight 1 ++ eight 0) ≡ refused Form
 unfolding read read_news be
 header-short = refl
 
@@ -53,6 +54,6 @@ pub one-skipped : read (2 ∷ 19 ∷ eight 1 ++ eight 6 ++ 171 ∷ 0 ∷ 1 ∷ 0
 unfolding read read_messages be cut
 one-skipped = refl
 
-pub header-past-the-end : read (0 ∷ 19 ∷ eight 1 ++ eight 0) ≡ refused 4
+pub header-past-the-end : read (0 ∷ 19 ∷ eight 1 ++ eight 0) ≡ refused Framing
 unfolding read read_news be
 header-past-the-end = refl

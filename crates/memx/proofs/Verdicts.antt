@@ -10,6 +10,7 @@ use borrow.Author.Tests.{le-leb, eq-eqb, ne_eqb, eqb-true, eqb-false}
 use lib.ListN.{length, length-append}
 use Rattle.wire.specs.Fields.{bytes_of}
 use Rattle.wire.specs.Checks.{◌is◌, ◌at_most◌, taken, Check, ◌else◌, checked}
+use Rattle.wire.specs.declared.refusal.Refusal.TheVariants.{Overlong, UnknownType, Framing, Form, Absent, Bound}
 use Rattle.wire.proofs.Tests.{by-test}
 use Rattle.wire.proofs.Width.{length-bytes_of}
 use Rattle.blocks.specs.Blocks.{cut, is_whole, messages_of}
@@ -21,22 +22,22 @@ use Rattle.memx.proofs.Header.{count-laid, blocks-laid}
 -- what is left to check of a header before so many bytes
 abbrev pub headed_checks : (kind : ℕ) (extra : List ℕ) (size : ℕ) → List Check
 headed_checks kind extra size =
-    (header_size + length extra + size at_most limit else 2)
-    ∷ (kind at_most 2 else 3)
-    ∷ (header_size + length extra at_most 255 else 5)
+    (header_size + length extra + size at_most limit else Overlong)
+    ∷ (kind at_most 2 else UnknownType)
+    ∷ (header_size + length extra at_most 255 else Form)
     ∷ []
 
 -- of a heartbeat or shutdown before so many bytes
 abbrev pub rest_checks : (highest size : ℕ) → List Check
-rest_checks highest size = (size is 0 else 4) ∷ (highest at_most 2 ^ 64 - 2 else 7) ∷ []
+rest_checks highest size = (size is 0 else Framing) ∷ (highest at_most 2 ^ 64 - 2 else Bound) ∷ []
 
 -- and of blocks of messages
 abbrev pub blocks_checks : (first count : ℕ) → List ℕ → List Check
 blocks_checks first count blocks =
-    (is_whole (cut count blocks) else 4)
-    ∷ (not (first is 0) else 6)
-    ∷ (not (count is 0) else 6)
-    ∷ (first + count at_most 2 ^ 64 - 1 else 7)
+    (is_whole (cut count blocks) else Framing)
+    ∷ (not (first is 0) else Absent)
+    ∷ (not (count is 0) else Absent)
+    ∷ (first + count at_most 2 ^ 64 - 1 else Bound)
     ∷ []
 
 -- a sum is its first part exactly if the second is 0

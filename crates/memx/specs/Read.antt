@@ -3,6 +3,7 @@
 use Rattle.std.specs.Prelude.{ℕ, ◌+◌, ◌-◌, ◌^◌, List, [], ◌∷◌, not, length, get_or, take, drop, if◌then◌else◌}
 use Rattle.wire.specs.Fields.{be}
 use Rattle.wire.specs.Checks.{◌is◌, ◌at_most◌, Verdict, taken, Check, ◌else◌, checked}
+use Rattle.wire.specs.declared.refusal.Refusal.TheVariants.{Empty, Overlong, UnknownType, Framing, Form, Absent, Bound}
 use Rattle.blocks.specs.Blocks.{Cut, cut, is_whole, messages_of}
 use Rattle.memx.specs.Packet.{Packet, heartbeat, shutdown, messages, limit, header_size}
 
@@ -37,29 +38,29 @@ blocks_in d = cut (count_in d) (drop (blocks_at d) d)
 -- It is a byte: over 255 stands only in what would be written with too many extra bytes
 abbrev pub header_checks : List ℕ → List Check
 header_checks d =
-    (not (length d is 0) else 1)
-    ∷ (length d at_most limit else 2)
-    ∷ (kind_in d at_most 2 else 3)
-    ∷ (header_size at_most length d else 4)
-    ∷ (header_size at_most header_in d else 5)
-    ∷ (header_in d at_most 255 else 5)
+    (not (length d is 0) else Empty)
+    ∷ (length d at_most limit else Overlong)
+    ∷ (kind_in d at_most 2 else UnknownType)
+    ∷ (header_size at_most length d else Framing)
+    ∷ (header_size at_most header_in d else Form)
+    ∷ (header_in d at_most 255 else Form)
     ∷ []
 
 -- a heartbeat or shutdown is the header alone
 abbrev pub news_checks : List ℕ → List Check
 news_checks d =
-    (length d is header_in d else 4)
-    ∷ (number_in d at_most 2 ^ 64 - 2 else 7)
+    (length d is header_in d else Framing)
+    ∷ (number_in d at_most 2 ^ 64 - 2 else Bound)
     ∷ []
 
 -- messages are numbered from 1, and there is one at least
 abbrev pub messages_checks : List ℕ → List Check
 messages_checks d =
-    (blocks_at d at_most length d else 4)
-    ∷ (is_whole (blocks_in d) else 4)
-    ∷ (not (number_in d is 0) else 6)
-    ∷ (not (count_in d is 0) else 6)
-    ∷ (number_in d + count_in d at_most 2 ^ 64 - 1 else 7)
+    (blocks_at d at_most length d else Framing)
+    ∷ (is_whole (blocks_in d) else Framing)
+    ∷ (not (number_in d is 0) else Absent)
+    ∷ (not (count_in d is 0) else Absent)
+    ∷ (number_in d + count_in d at_most 2 ^ 64 - 1 else Bound)
     ∷ []
 
 -- what types 0 and 1 say

@@ -6,13 +6,14 @@ ghost use Rattle.memx.specs.Reading.{memx_of};
 
 use crate::layout;
 use wire::kinds::{Sequence, SessionId};
-use wire::{fields, refusal};
+use wire::refusal::Refusal;
+use wire::fields;
 
 // What a packet says. `extra` is how many bytes the header has past its own fields: they stand from layout::HEADER on, and the
 // blocks of messages begin so many bytes behind layout::BLOCKS.
 #[derive(Clone, Copy)]
 pub enum Memx {
-    Refused(u8),
+    Refused(Refusal),
     Heartbeat {
         session: SessionId,
         highest: Sequence,
@@ -38,11 +39,11 @@ fn read_news(kind: u8, d: &[u8]) -> Memx
 {
     let header = d[1] as usize;
     if d.len() != header {
-        return Memx::Refused(refusal::FRAMING);
+        return Memx::Refused(Refusal::Framing);
     }
     let highest = fields::get8(d, layout::NUMBER);
     if highest == layout::CEILING {
-        return Memx::Refused(refusal::BOUND);
+        return Memx::Refused(Refusal::Bound);
     }
     let session = SessionId(fields::get8(d, layout::SESSION));
     let extra = (header - layout::HEADER) as u8;
@@ -68,21 +69,21 @@ fn read_messages(d: &[u8]) -> Memx
     let header = d[1] as usize;
     let place = header + 2;
     if d.len() < place {
-        return Memx::Refused(refusal::FRAMING);
+        return Memx::Refused(Refusal::Framing);
     }
     let count = fields::get2(d, header);
     if !blocks::exactly(d, place, count) {
-        return Memx::Refused(refusal::FRAMING);
+        return Memx::Refused(Refusal::Framing);
     }
     let first = fields::get8(d, layout::NUMBER);
     if first == 0 {
-        return Memx::Refused(refusal::ABSENT);
+        return Memx::Refused(Refusal::Absent);
     }
     if count == 0 {
-        return Memx::Refused(refusal::ABSENT);
+        return Memx::Refused(Refusal::Absent);
     }
     if layout::CEILING - first < count as u64 {
-        return Memx::Refused(refusal::BOUND);
+        return Memx::Refused(Refusal::Bound);
     }
     let session = SessionId(fields::get8(d, layout::SESSION));
     let extra = (header - layout::HEADER) as u8;
@@ -98,20 +99,20 @@ pub fn read(d: &[u8]) -> Memx
     ensures { result ≡ memx_of (read d.now) }
 {
     if d.len() == 0 {
-        return Memx::Refused(refusal::EMPTY);
+        return Memx::Refused(Refusal::Empty);
     }
     if layout::LIMIT < d.len() {
-        return Memx::Refused(refusal::OVERLONG);
+        return Memx::Refused(Refusal::Overlong);
     }
     let kind = d[0];
     if layout::MESSAGES < kind {
-        return Memx::Refused(refusal::UNKNOWN_TYPE);
+        return Memx::Refused(Refusal::UnknownType);
     }
     if d.len() < layout::HEADER {
-        return Memx::Refused(refusal::FRAMING);
+        return Memx::Refused(Refusal::Framing);
     }
     if d[1] < layout::HEADER as u8 {
-        return Memx::Refused(refusal::FORM);
+        return Memx::Refused(Refusal::Form);
     }
     if kind == layout::MESSAGES {
         read_messages(d)

@@ -1,4 +1,4 @@
--- The letters that the paper's tables list are taken in their types, every other letter is refused 5, and no other type has a letter.
+-- The letters that the paper's tables list are taken in their types, every other letter is refused Form, and no other type has a letter.
 -- Assumes nothing.
 use Rattle.std.specs.Prelude.{if◌then◌else◌}
 use Prim.Native.Nat.{ℕ, ◌+◌, ◌*◌, ◌/◌, ◌%◌, ◌<◌}
@@ -12,6 +12,7 @@ use types.Run.{OneOf}
 use lib.ListN.{get_or, drop}
 use Rattle.wire.specs.Fields.{be, bytes_of}
 use Rattle.wire.specs.Checks.{◌is◌, refused, taken, Check, checked}
+use Rattle.wire.specs.declared.refusal.Refusal.TheVariants.{Form}
 use Rattle.wire.proofs.Tests.{by-test, and_left, and_right, impossible}
 use Rattle.memx_tcp.specs.Layout.{Row, ◌is_one_of◌, lettered, known, fields_of, most_of, size}
 use Rattle.memx_tcp.specs.Packet.{header_size, laid, write, each}
@@ -26,12 +27,12 @@ use Rattle.memx_tcp.proofs.Every.{missed, otherwise}
 module _ (b : ℕ) where
   pub record Only (kind : ℕ) (letters : List ℕ) : Type 0 where
     pub takes : OneOf letters b → read (kind ∷ 0 ∷ 1 ∷ b ∷ []) ≡ taken (record { kind = kind; values = b ∷ []; tail = [] })
-    pub refuses : (OneOf letters b → ⊥) → read (kind ∷ 0 ∷ 1 ∷ b ∷ []) ≡ refused 5
-    pub unwritten : b < 256 → (OneOf letters b → ⊥) → (c s n t room : ℕ) → reply (fields kind b c s n t) [] room ≡ refused 5
+    pub refuses : (OneOf letters b → ⊥) → read (kind ∷ 0 ∷ 1 ∷ b ∷ []) ≡ refused Form
+    pub unwritten : b < 256 → (OneOf letters b → ⊥) → (c s n t room : ℕ) → reply (fields kind b c s n t) [] room ≡ refused Form
 
   abbrev Says : ℕ → List ℕ → Type 0
   Says kind letters = read (kind ∷ 0 ∷ 1 ∷ b ∷ []) ≡
-      (if b is_one_of letters && true then taken (record { kind = kind; values = b ∷ []; tail = [] }) else refused 5)
+      (if b is_one_of letters && true then taken (record { kind = kind; values = b ∷ []; tail = [] }) else refused Form)
 
   listed : (letters : List ℕ) → OneOf letters b → b is_one_of letters ≡ true
   listed [] e = absurd e
@@ -92,9 +93,9 @@ never-refused n (c ∷ cs) a s e =
     true≢false (sym (rw (eq-eqb c.number n m, q) at (and_left here (spared n cs) s))))
 
 -- a packet of any other type is never refused for a letter
-pub no-letter-elsewhere : (d : List ℕ) → (OneOf (1 ∷ 2 ∷ 6 ∷ 9 ∷ 100 ∷ []) (get_or d 0 0) → ⊥) → read d ≡ refused 5 → ⊥
+pub no-letter-elsewhere : (d : List ℕ) → (OneOf (1 ∷ 2 ∷ 6 ∷ 9 ∷ 100 ∷ []) (get_or d 0 0) → ⊥) → read d ≡ refused Form → ⊥
 unfolding read fields_of each values_in
 no-letter-elsewhere d h =
     let test : Row → Bool = λ r. each lettered r.fields (values_in r.fields (drop header_size d)) in
     let l = otherwise test ((1 ∷ 2 ∷ 6 ∷ 9 ∷ 100 ∷ []) ∷ []) refl (λ k. refl) (kind_in d) (tt, h) in
-    never-refused 5 (checks d) (packet_in d) (rw l)
+    never-refused Form (checks d) (packet_in d) (rw l)

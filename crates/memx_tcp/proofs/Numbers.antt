@@ -1,4 +1,4 @@
--- Every count, session and number that its bytes can spell is taken, but a next number of 0, which is refused 6: in 5, 8 and 101 alone.
+-- Every count, session and number that its bytes can spell is taken, but a next number of 0, which is refused Absent: in 5, 8 and 101 alone.
 -- Assumes nothing.
 use Prim.Native.Nat.{ℕ, ◌^◌, ◌<◌}
 use mathlib.Core.Path.{◌≡◌, refl}
@@ -9,6 +9,7 @@ use types.Run.{OneOf}
 use lib.ListN.{get_or, drop}
 use Rattle.wire.specs.Fields.{bytes_of}
 use Rattle.wire.specs.Checks.{refused, taken}
+use Rattle.wire.specs.declared.refusal.Refusal.TheVariants.{Absent}
 use Rattle.wire.proofs.Tests.{not-zero}
 use Rattle.memx_tcp.specs.Layout.{Row, numbered, known, fields_of, most_of, size}
 use Rattle.memx_tcp.specs.Packet.{Packet, header_size, laid, write, Sized, each}
@@ -25,7 +26,7 @@ abbrev Takes : ℕ → List ℕ → List ℕ → Type 0
 Takes kind follows values = read (kind ∷ follows) ≡ taken (packet kind values)
 
 abbrev Refuses : ℕ → List ℕ → Type 0
-Refuses kind follows = read (kind ∷ follows) ≡ refused 6
+Refuses kind follows = read (kind ∷ follows) ≡ refused Absent
 
 -- a count, a session, the highest number, and a number
 module _ (c s t : ℕ) (hc : c < 2 ^ 32) (hs : s < 2 ^ 64) (ht : t < 2 ^ 64) where
@@ -76,9 +77,9 @@ module _ (c s t : ℕ) (hc : c < 2 ^ 32) (hs : s < 2 ^ 64) (ht : t < 2 ^ 64) whe
       )
 
 -- a packet of any other type is never refused for a number
-pub no-number-elsewhere : (d : List ℕ) → (OneOf (5 ∷ 8 ∷ 101 ∷ []) (get_or d 0 0) → ⊥) → read d ≡ refused 6 → ⊥
+pub no-number-elsewhere : (d : List ℕ) → (OneOf (5 ∷ 8 ∷ 101 ∷ []) (get_or d 0 0) → ⊥) → read d ≡ refused Absent → ⊥
 unfolding read fields_of each values_in
 no-number-elsewhere d h =
     let test : Row → Bool = λ r. each numbered r.fields (values_in r.fields (drop header_size d)) in
     let l = otherwise test ((5 ∷ 8 ∷ 101 ∷ []) ∷ []) refl (λ k. refl) (kind_in d) (tt, h) in
-    never-refused 6 (checks d) (packet_in d) (rw l)
+    never-refused Absent (checks d) (packet_in d) (rw l)

@@ -9,6 +9,7 @@ use lib.ListN.{length, drop, length-append}
 use lib.Seq.{drop-drop}
 use Rattle.wire.specs.Fields.{bytes_of}
 use Rattle.wire.specs.Checks.{◌at_most◌, Check, ◌else◌, checked, taken}
+use Rattle.wire.specs.declared.refusal.Refusal.TheVariants.{Overlong, UnknownType, Framing, Form, Absent}
 use Rattle.wire.proofs.Tests.{by-test}
 use Rattle.wire.proofs.Width.{be-bytes_of}
 use Rattle.memx_tcp.specs.Layout.{Field, lettered, numbered, known, fields_of, most_of, size}
@@ -60,11 +61,11 @@ module _ (p : Packet) (h : Sized (fields_of p.kind) p.values) where
 
   abbrev pub written_checks : List Check
   written_checks =
-      (whole at_most limit else 2)
-      ∷ (known p.kind else 3)
-      ∷ (length p.tail at_most most_of p.kind else 4)
-      ∷ (each lettered fields p.values else 5)
-      ∷ (each numbered fields p.values else 6)
+      (whole at_most limit else Overlong)
+      ∷ (known p.kind else UnknownType)
+      ∷ (length p.tail at_most most_of p.kind else Framing)
+      ∷ (each lettered fields p.values else Form)
+      ∷ (each numbered fields p.values else Absent)
       ∷ []
 
   pub written-verdict : read (write p) ≡ checked written_checks (taken p)

@@ -3,6 +3,7 @@
 use Rattle.std.specs.Prelude.{ℕ, ◌+◌, List, [], ◌∷◌, Bool, not, ◌&&◌, length, get_or, drop}
 use Rattle.wire.specs.Fields.{be}
 use Rattle.wire.specs.Checks.{◌is◌, ◌at_most◌, Verdict, taken, Check, ◌else◌, checked}
+use Rattle.wire.specs.declared.refusal.Refusal.TheVariants.{Empty, Overlong, UnknownType, Framing, Form, Absent}
 use Rattle.memx_tcp.specs.Layout.{Field, width, lettered, numbered, known, fields_of, most_of, size}
 use Rattle.memx_tcp.specs.Packet.{Packet, header_size, limit, each}
 
@@ -42,12 +43,12 @@ framed d =
 -- Order shows that they stand in the readers' order
 abbrev pub checks : List ℕ → List Check
 checks d =
-    (not (length d is 0) else 1)
-    ∷ (length d at_most limit else 2)
-    ∷ (known (kind_in d) else 3)
-    ∷ (framed d else 4)
-    ∷ (each lettered (fields_in d) (packet_in d).values else 5)
-    ∷ (each numbered (fields_in d) (packet_in d).values else 6)
+    (not (length d is 0) else Empty)
+    ∷ (length d at_most limit else Overlong)
+    ∷ (known (kind_in d) else UnknownType)
+    ∷ (framed d else Framing)
+    ∷ (each lettered (fields_in d) (packet_in d).values else Form)
+    ∷ (each numbered (fields_in d) (packet_in d).values else Absent)
     ∷ []
 
 -- Exact shows that what is taken is what was written

@@ -10,12 +10,12 @@ use crate::packet::Fields;
 use crate::{layout, types};
 use wire::fields::{get2, get4, get8};
 use wire::kinds::{Sequence, SessionId};
-use wire::refusal;
+use wire::refusal::Refusal;
 
 // What a packet says: its fields, and where its token or payload begins and how many bytes it has, both 0 where the type has neither.
 #[derive(Clone, Copy)]
 pub enum Tcp {
-    Refused(u8),
+    Refused(Refusal),
     Packet {
         fields: Fields,
         start: usize,
@@ -117,11 +117,11 @@ fn read_payload(d: &[u8]) -> Tcp
     ensures { result ≡ tcp_of (read d.now) }
 {
     if d.len() < layout::HEADER {
-        return Tcp::Refused(refusal::FRAMING);
+        return Tcp::Refused(Refusal::Framing);
     }
     let length = d.len() - layout::HEADER;
     if get2(d, 1) as usize != length {
-        return Tcp::Refused(refusal::FRAMING);
+        return Tcp::Refused(Refusal::Framing);
     }
     let kind = d[0];
     let fields = fields(kind, 0, 0, 0, 0, 0);
@@ -136,29 +136,29 @@ pub fn read(d: &[u8]) -> Tcp
     ensures { result ≡ tcp_of (read d.now) }
 {
     if d.len() == 0 {
-        return Tcp::Refused(refusal::EMPTY);
+        return Tcp::Refused(Refusal::Empty);
     }
     if layout::LIMIT < d.len() {
-        return Tcp::Refused(refusal::OVERLONG);
+        return Tcp::Refused(Refusal::Overlong);
     }
     let kind = d[0];
     if (kind == types::SEQUENCED) | (kind == types::UNSEQUENCED) {
         return read_payload(d);
     }
     if !layout::is_known(kind) {
-        return Tcp::Refused(refusal::UNKNOWN_TYPE);
+        return Tcp::Refused(Refusal::UnknownType);
     }
     let fixed = layout::fixed(kind);
     let most = layout::most(kind);
     if !is_framed(d, fixed, most) {
-        return Tcp::Refused(refusal::FRAMING);
+        return Tcp::Refused(Refusal::Framing);
     }
     let fields = fields_of(d);
     if !layout::is_lettered(fields) {
-        return Tcp::Refused(refusal::FORM);
+        return Tcp::Refused(Refusal::Form);
     }
     if !layout::is_numbered(fields) {
-        return Tcp::Refused(refusal::ABSENT);
+        return Tcp::Refused(Refusal::Absent);
     }
     let end = layout::HEADER + fixed;
     let length = d.len() - end;

@@ -8,8 +8,8 @@ ghost use Rattle.memx_tcp.specs.Writing.{values_of, reply};
 
 use crate::packet::Fields;
 use crate::{layout, types};
-use wire::output::Written;
-use wire::{fields, output, refusal};
+use wire::refusal::Refusal;
+use wire::{fields, output};
 
 fn put_fields(p: Fields, out: &mut [u8])
     requires { header_size + size (fields_of p.kind) ≤ length out.old }
@@ -55,33 +55,33 @@ fn put_fields(p: Fields, out: &mut [u8])
 }
 
 // The body is the token or the payload.
-pub fn write(p: Fields, body: &[u8], out: &mut [u8]) -> Written
+pub fn write(p: Fields, body: &[u8], out: &mut [u8]) -> Result<usize, Refusal>
     ensures { Settled (reply p body.now (length out.old)) out.old result out.new }
 {
     let kind = p.kind;
     let end = layout::HEADER + layout::fixed(kind);
     if layout::LIMIT - end < body.len() {
-        return Written::Refused(refusal::OVERLONG);
+        return Err(Refusal::Overlong);
     }
     if !layout::is_known(kind) {
-        return Written::Refused(refusal::UNKNOWN_TYPE);
+        return Err(Refusal::UnknownType);
     }
     if layout::most(kind) < body.len() {
-        return Written::Refused(refusal::FRAMING);
+        return Err(Refusal::Framing);
     }
     if !layout::is_lettered(p) {
-        return Written::Refused(refusal::FORM);
+        return Err(Refusal::Form);
     }
     if !layout::is_numbered(p) {
-        return Written::Refused(refusal::ABSENT);
+        return Err(Refusal::Absent);
     }
     let size = end + body.len();
     if out.len() < size {
-        return Written::Refused(refusal::ROOM);
+        return Err(Refusal::Room);
     }
     out[0] = kind;
     fields::put2(out, 1, (size - layout::HEADER) as u16);
     put_fields(p, out);
     output::copy(out, end, body, 0, body.len());
-    Written::Bytes(size)
+    Ok(size)
 }

@@ -11,6 +11,7 @@ use lib.ListN.{length}
 use Rattle.wire.specs.Fields.{be, bytes_of}
 use Rattle.wire.specs.Checks.{◌is◌, ◌at_most◌, refused, taken, Check, ◌else◌, checked}
 use Rattle.wire.specs.Reply.{within, settle}
+use Rattle.wire.specs.declared.refusal.Refusal.TheVariants.{Overlong, UnknownType, Form}
 use Rattle.wire.proofs.Settling.{settle-checked}
 use Rattle.wire.proofs.Tests.{by-test, leb-same}
 use Rattle.memx.specs.Packet.{Packet, heartbeat, shutdown, messages, extra_of, plain, limit, header_size, headed, write}
@@ -34,11 +35,11 @@ module _ (kind session number : ℕ) (extra follows : List ℕ) where
 
   -- 2, then 3, and then 5, whatever else is wrong
   pub over-237-is-5 : (room : ℕ) → 237 < length extra
-      → sent packet room ≡ checked ((length packet at_most limit else 2) ∷ (kind at_most 2 else 3) ∷ []) (refused 5)
+      → sent packet room ≡ checked ((length packet at_most limit else Overlong) ∷ (kind at_most 2 else UnknownType) ∷ []) (refused Form)
   over-237-is-5 room h =
       rw (headed-verdict, length-headed, lt-leb (header_size + length extra) 255 (omega arith))
-      (settle-checked {A = Packet} ((header_size + length extra + length follows at_most limit else 2) ∷ (kind at_most 2 else 3) ∷ [])
-      (refused 5) packet room)
+      (settle-checked {A = Packet} ((header_size + length extra + length follows at_most limit else Overlong) ∷ (kind at_most 2 else UnknownType) ∷ [])
+      (refused Form) packet room)
 
   -- the same without the extra bytes: what is checked behind the header does not look at them
   abbrev bare : List ℕ
@@ -95,7 +96,7 @@ module _ (kind session number : ℕ) (extra follows : List ℕ) where
 -- ---- every type
 
 pub packet-over-237-is-5 : (p : Packet) (room : ℕ) → 237 < length (extra_of p)
-    → reply p room ≡ (if length (write p) at_most limit then refused 5 else refused 2)
+    → reply p room ≡ (if length (write p) at_most limit then refused Form else refused Overlong)
 unfolding write
 packet-over-237-is-5 (heartbeat session highest extra) = over-237-is-5 0 session highest extra _
 packet-over-237-is-5 (shutdown session highest extra) = over-237-is-5 1 session highest extra _

@@ -9,8 +9,8 @@ ghost use Rattle.memx_write.specs.Writing.{sent, reply};
 
 use memx::layout;
 use wire::kinds::{Sequence, SessionId};
-use wire::output::Written;
-use wire::{fields, output, refusal};
+use wire::refusal::Refusal;
+use wire::{fields, output};
 
 fn put_header(out: &mut [u8], kind: u8, session: SessionId, number: Sequence, extra: &[u8])
     requires { (length extra.now ≤ 237) × (header_size + length extra.now ≤ length out.old) }
@@ -51,26 +51,26 @@ fn write_news(
     highest: Sequence,
     extra: &[u8],
     out: &mut [u8],
-) -> Written
+) -> Result<usize, Refusal>
     requires { kind ≤ 1 }
     ensures { Settled (sent (headed kind session.0 highest.0 extra.now []) (length out.old))
         out.old result out.new }
 {
     let header = layout::HEADER + extra.len();
     if layout::LIMIT < header {
-        return Written::Refused(refusal::OVERLONG);
+        return Err(Refusal::Overlong);
     }
     if layout::MOST_EXTRA < extra.len() {
-        return Written::Refused(refusal::FORM);
+        return Err(Refusal::Form);
     }
     if highest.0 == layout::CEILING {
-        return Written::Refused(refusal::BOUND);
+        return Err(Refusal::Bound);
     }
     if out.len() < header {
-        return Written::Refused(refusal::ROOM);
+        return Err(Refusal::Room);
     }
     put_header(out, kind, session, highest, extra);
-    Written::Bytes(header)
+    Ok(header)
 }
 
 // `extra` are the header's bytes past its own fields.
@@ -79,7 +79,7 @@ pub fn write_heartbeat(
     highest: Sequence,
     extra: &[u8],
     out: &mut [u8],
-) -> Written
+) -> Result<usize, Refusal>
     ensures { Settled (reply (heartbeat session.0 highest.0 extra.now) (length out.old))
         out.old result out.new }
 {
@@ -91,7 +91,7 @@ pub fn write_shutdown(
     highest: Sequence,
     extra: &[u8],
     out: &mut [u8],
-) -> Written
+) -> Result<usize, Refusal>
     ensures { Settled (reply (shutdown session.0 highest.0 extra.now) (length out.old))
         out.old result out.new }
 {
@@ -106,38 +106,38 @@ pub fn write_messages(
     extra: &[u8],
     blocks: &[u8],
     out: &mut [u8],
-) -> Written
+) -> Result<usize, Refusal>
     ensures { Settled (sent (laid session.0 first.0 count extra.now blocks.now)
         (length out.old)) out.old result out.new }
 {
     let more = extra.len();
     let place = layout::BLOCKS + more;
     if layout::LIMIT < place {
-        return Written::Refused(refusal::OVERLONG);
+        return Err(Refusal::Overlong);
     }
     if layout::LIMIT - place < blocks.len() {
-        return Written::Refused(refusal::OVERLONG);
+        return Err(Refusal::Overlong);
     }
     if layout::MOST_EXTRA < more {
-        return Written::Refused(refusal::FORM);
+        return Err(Refusal::Form);
     }
     if !blocks::exactly(blocks, 0, count) {
-        return Written::Refused(refusal::FRAMING);
+        return Err(Refusal::Framing);
     }
     let number = first.0;
     if number == 0 {
-        return Written::Refused(refusal::ABSENT);
+        return Err(Refusal::Absent);
     }
     if count == 0 {
-        return Written::Refused(refusal::ABSENT);
+        return Err(Refusal::Absent);
     }
     if layout::CEILING - number < count as u64 {
-        return Written::Refused(refusal::BOUND);
+        return Err(Refusal::Bound);
     }
     let size = place + blocks.len();
     if out.len() < size {
-        return Written::Refused(refusal::ROOM);
+        return Err(Refusal::Room);
     }
     put_messages(out, session, first, count, extra, blocks);
-    Written::Bytes(size)
+    Ok(size)
 }

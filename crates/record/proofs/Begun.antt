@@ -6,6 +6,7 @@ use mathlib.Core.List.{[], ◌∷◌}
 use Rattle.wire.specs.Checks.{refused, taken, ◌else◌}
 use Rattle.wire.specs.declared.kinds.Name.{Name}
 use Rattle.wire.specs.declared.kinds.SessionId.{SessionId}
+use Rattle.wire.specs.declared.refusal.Refusal.TheVariants.{Form, Absent, Broken}
 use Rattle.wire.proofs.Checks.{all-passed, taken-same}
 use Rattle.names.specs.Names.{name_bytes}
 use Rattle.text.specs.Text.{text_then_spaces, blank}
@@ -19,13 +20,13 @@ module _ (r : Record) (zero : r.next.0 ≡ 0) where
   unfolding hangs
   nought-is-broken = rw zero
 
-  pub nought-never-stands : standing r ≡ refused 10
+  pub nought-never-stands : standing r ≡ refused Broken
   unfolding standing
   nought-never-stands = rw nought-is-broken
 
 pub opened-from-one : (name : Name) (r : Record) → opening name ≡ taken r → r.next.0 ≡ 1
 opened-from-one name r e =
-    let checks = (text_then_spaces (name_bytes name) else 5) ∷ (not (blank (name_bytes name)) else 6) ∷ [] in
+    let checks = (text_then_spaces (name_bytes name) else Form) ∷ (not (blank (name_bytes name)) else Absent) ∷ [] in
     let same = taken-same (fresh (Ufo name)) r (all-passed checks (taken (fresh (Ufo name))) r e).1 in
     sym (ap (λ (k : Record). k.next.0) same)
 

@@ -9,6 +9,7 @@ use native.Mathlib.Omega.{arith}
 use borrow.Author.Tests.{le-leb, lt-leb, leb-true, leb-false, eq-eqb}
 use lib.Dec.{leb}
 use Rattle.wire.specs.Checks.{taken, ◌else◌}
+use Rattle.wire.specs.declared.refusal.Refusal.TheVariants.{Broken}
 use Rattle.wire.proofs.Tests.{by-test}
 use Rattle.wire.proofs.Checks.{all-passed}
 use Rattle.missing.specs.Missing.{is_held}
@@ -61,7 +62,7 @@ module _ (r : Record) (h : hangs r ≡ true) where
 pub standing-means : (r : Record) (s : State) → standing r ≡ taken s → Means r s
 unfolding standing
 standing-means r s e =
-    let p = all-passed ((hangs r else 10) ∷ []) (taken (state r)) s e in
+    let p = all-passed ((hangs r else Broken) ∷ []) (taken (state r)) s e in
     let same : state r ≡ s = cc p.1 in
     rw same at (means r p.0.0)
 

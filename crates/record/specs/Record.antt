@@ -5,6 +5,7 @@ use Rattle.wire.specs.Checks.{◌at_most◌, Verdict, refused, taken, ◌else◌
 use Rattle.names.specs.Names.{name_bytes}
 use Rattle.text.specs.Text.{blank, text_then_spaces}
 use Rattle.wire.specs.declared.kinds.Name.{Name}
+use Rattle.wire.specs.declared.refusal.Refusal.TheVariants.{Form, Absent}
 use Rattle.held.specs.Hanging.{in_place}
 use Rattle.record.specs.declared.Session.{Session}
 use Rattle.record.specs.declared.Session.TheVariants.{Ufo, Memx}
@@ -26,7 +27,7 @@ fresh session = record {
 -- a UFO session is a text field as in `A`: reports' Opening.opens-as-in-A
 abbrev pub opening : Name → Verdict Record
 opening name =
-    checked ((text_then_spaces (name_bytes name) else 5) ∷ (not (blank (name_bytes name)) else 6) ∷ [])
+    checked ((text_then_spaces (name_bytes name) else Form) ∷ (not (blank (name_bytes name)) else Absent) ∷ [])
     (taken (fresh (Ufo name)))
 
 abbrev pub opened_of : Verdict Record → Opened

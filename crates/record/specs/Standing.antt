@@ -2,6 +2,7 @@
 -- Assumes nothing.
 use Rattle.std.specs.Prelude.{ℕ, ◌+◌, List, [], ◌∷◌, Bool, ◌&&◌, length, if◌then◌else◌}
 use Rattle.wire.specs.Checks.{◌is◌, ◌at_most◌, Verdict, refused, taken, ◌else◌, checked}
+use Rattle.wire.specs.declared.refusal.Refusal.TheVariants.{Broken}
 use Rattle.missing.specs.Missing.{◌at◌}
 use Rattle.missing.specs.Missing as ranges
 use Rattle.missing.specs.declared.Range.{Range}
@@ -38,7 +39,7 @@ state r =
 
 -- Complete.standing-means: what each answer says of N, T and the end
 unfoldable pub standing : Record → Verdict State
-standing r = checked ((hangs r else 10) ∷ []) (taken (state r))
+standing r = checked ((hangs r else Broken) ∷ []) (taken (state r))
 
 abbrev pub standing_of : Verdict State → Standing
 standing_of (refused n) = stands.Refused n
@@ -48,7 +49,7 @@ standing_of (taken (missing rs)) = stands.Missing (length rs) (rs at 0).first (r
 
 -- the missing range at a place, counted from 0; noughts where there is none
 unfoldable pub range_at : Record → ℕ → Verdict Range
-range_at r place = checked ((hangs r else 10) ∷ []) (taken (missing_of r at place))
+range_at r place = checked ((hangs r else Broken) ∷ []) (taken (missing_of r at place))
 
 abbrev pub range_of : Verdict Range → MissingRange
 range_of (refused n) = gives.Refused n

@@ -5,11 +5,11 @@ ghost use Rattle.record.specs.declared.Session.TheVariants.{Memx};
 
 use crate::{Record, Session};
 use wire::kinds::{Name, Sequence, SessionId};
-use wire::refusal;
+use wire::refusal::Refusal;
 
 #[derive(Clone, Copy)]
 pub enum Opened {
-    Refused(u8),
+    Refused(Refusal),
     Record(Record),
 }
 
@@ -30,10 +30,10 @@ pub fn open_ufo(name: Name) -> Opened
     ensures { result ≡ opened_of (opening name) }
 {
     if !text::is_name_then_spaces(name) {
-        return Opened::Refused(refusal::FORM);
+        return Opened::Refused(Refusal::Form);
     }
     if text::is_blank_name(name) {
-        return Opened::Refused(refusal::ABSENT);
+        return Opened::Refused(Refusal::Absent);
     }
     Opened::Record(fresh(Session::Ufo(name)))
 }

@@ -6,11 +6,11 @@ use crate::Record;
 use crate::hangs::hangs_together;
 use missing::Range;
 use wire::kinds::Sequence;
-use wire::refusal;
+use wire::refusal::Refusal;
 
 #[derive(Clone, Copy)]
 pub enum Standing {
-    Refused(u8),
+    Refused(Refusal),
     // Every message up to the end was delivered.
     Complete,
     // Nothing is missing, but no end was heard.
@@ -26,7 +26,7 @@ pub enum Standing {
 // A missing range, noughts where there is none.
 #[derive(Clone, Copy)]
 pub enum MissingRange {
-    Refused(u8),
+    Refused(Refusal),
     Range(Range),
 }
 
@@ -34,7 +34,7 @@ pub fn standing_of(kept: Record) -> Standing
     ensures { result ≡ standing_of (standing kept) }
 {
     if !hangs_together(kept) {
-        return Standing::Refused(refusal::BROKEN);
+        return Standing::Refused(Refusal::Broken);
     }
     let next = kept.next;
     let top = kept.top;
@@ -61,7 +61,7 @@ pub fn missing_range(kept: Record, place: u64) -> MissingRange
     ensures { result ≡ range_of (range_at kept place) }
 {
     if !hangs_together(kept) {
-        return MissingRange::Refused(refusal::BROKEN);
+        return MissingRange::Refused(Refusal::Broken);
     }
     let next = kept.next;
     let top = kept.top;

@@ -7,6 +7,7 @@ use mathlib.Core.Logic.{◌↔◌}
 use native.Mathlib.Omega.{arith}
 use Rattle.wire.specs.Checks.{taken, ◌else◌}
 use Rattle.wire.specs.declared.kinds.Name.{Name}
+use Rattle.wire.specs.declared.refusal.Refusal.TheVariants.{Form, Absent}
 use Rattle.wire.proofs.Checks.{all-passed}
 use Rattle.wire.proofs.Tests.{failed}
 use Rattle.names.specs.Names.{name_bytes}
@@ -20,7 +21,7 @@ pub opens-as-in-A : (name : Name) → (opening name ≡ taken (fresh (Ufo name))
 opens-as-in-A name = (lawful, opens) where
   lawful : opening name ≡ taken (fresh (Ufo name)) → ufo.FitAccept (name_bytes name) 1
   lawful e =
-      let checks = (text_then_spaces (name_bytes name) else 5) ∷ (not (blank (name_bytes name)) else 6) ∷ [] in
+      let checks = (text_then_spaces (name_bytes name) else Form) ∷ (not (blank (name_bytes name)) else Absent) ∷ [] in
       let p = (all-passed checks (taken (fresh (Ufo name))) (fresh (Ufo name)) e).0 in
       record { ten = length-name_bytes name; letters = p.0; named = failed refl p.1.0; some = omega arith; bound = omega arith }
 

@@ -8,6 +8,7 @@ use borrow.Author.Tests.{ne_eqb}
 use Rattle.wire.specs.Checks.{refused, taken}
 use Rattle.wire.specs.declared.kinds.Name.{Name}
 use Rattle.wire.specs.declared.kinds.SessionId.{SessionId}
+use Rattle.wire.specs.declared.refusal.Refusal.TheVariants.{OtherSession, NotForRecord}
 use Rattle.ufo.specs.Down as ufo
 use Rattle.memx.specs.Packet as memx
 use Rattle.memx.specs.Read as memx_read
@@ -19,11 +20,11 @@ module _ (name : Name) (d : List ℕ) where
   unfolding report_of
   ufo-reader-first n e = rw e
 
-  pub then-accept-is-16 : (session : List ℕ) (next : ℕ) → ufo.read d ≡ taken (ufo.accept session next) → report_of (Ufo name) d ≡ refused 16
+  pub then-accept-is-16 : (session : List ℕ) (next : ℕ) → ufo.read d ≡ taken (ufo.accept session next) → report_of (Ufo name) d ≡ refused NotForRecord
   unfolding report_of
   then-accept-is-16 session next e = rw e
 
-  pub then-reject-is-16 : (reason : ℕ) → ufo.read d ≡ taken (ufo.reject reason) → report_of (Ufo name) d ≡ refused 16
+  pub then-reject-is-16 : (reason : ℕ) → ufo.read d ≡ taken (ufo.reject reason) → report_of (Ufo name) d ≡ refused NotForRecord
   unfolding report_of
   then-reject-is-16 reason e = rw e
 
@@ -38,12 +39,12 @@ module _ (own : SessionId) (d : List ℕ) where
   unfolding report_of
   memx-reader-first n e = rw e
 
-  other : (p : memx.Packet) → ((session_of p ≡ own.0) → ⊥) → of_memx own.0 p ≡ refused 11
+  other : (p : memx.Packet) → ((session_of p ≡ own.0) → ⊥) → of_memx own.0 p ≡ refused OtherSession
   other (memx.heartbeat session highest extra) f = rw (ne_eqb session own.0 f)
   other (memx.shutdown session highest extra) f = rw (ne_eqb session own.0 f)
   other (memx.messages session first extra ms) f = rw (ne_eqb session own.0 f)
 
   pub then-another-session-is-11 : (p : memx.Packet) → memx_read.read d ≡ taken p → ((session_of p ≡ own.0) → ⊥)
-      → report_of (Memx own) d ≡ refused 11
+      → report_of (Memx own) d ≡ refused OtherSession
   unfolding report_of
   then-another-session-is-11 p e f = rw e (other p f)

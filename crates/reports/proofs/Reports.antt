@@ -10,6 +10,7 @@ use Rattle.wire.specs.Checks.{◌is◌, Verdict, refused, taken, ◌else◌}
 use Rattle.wire.specs.Fields.{Bytes}
 use Rattle.wire.specs.declared.kinds.Name.{Name}
 use Rattle.wire.specs.declared.kinds.SessionId.{SessionId}
+use Rattle.wire.specs.declared.refusal.Refusal.TheVariants.{OtherSession, NotForRecord}
 use Rattle.wire.proofs.Checks.{not-both, all-passed, went}
 use Rattle.blocks.specs.Blocks.{whole, cut}
 use Rattle.blocks.proofs.Counting.{fills-cut, length_cut}
@@ -50,14 +51,14 @@ counted d p first count f = length_cut count (drop p d) (blocks_from d p count) 
 owns : (id : SessionId) (session : ℕ) (d : List ℕ) (said report : Report) → Sound (Memx id) d said
     → owned id.0 session said ≡ taken report → Sound (Memx id) d report
 owns id session d said report s e =
-    let p = (all-passed ((session is id.0 else 11) ∷ []) (taken said) report e).1 in
+    let p = (all-passed ((session is id.0 else OtherSession) ∷ []) (taken said) report e).1 in
     let same : said ≡ report = cc in
     rw (← same) s
 
 module _ (d : List ℕ) (b : Bytes d) where
   sound-ufo : (name : Name) (p : ufo.Packet) (report : Report) → ufo.read d ≡ taken p → of_ufo p ≡ taken report → Sound (Ufo name) d report
-  sound-ufo name (ufo.accept session next) report e f = not-both (refused 16) 16 report refl f
-  sound-ufo name (ufo.reject reason) report e f = not-both (refused 16) 16 report refl f
+  sound-ufo name (ufo.accept session next) report e f = not-both (refused NotForRecord) 16 report refl f
+  sound-ufo name (ufo.reject reason) report e f = not-both (refused NotForRecord) 16 report refl f
   sound-ufo name (ufo.messages first ms) report e f =
       let c = carries d first ms e in
       let some = c.some in

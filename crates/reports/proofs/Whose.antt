@@ -9,6 +9,7 @@ use borrow.Author.Tests.{eqb-true}
 use Rattle.wire.specs.Checks.{◌is◌, refused, taken, ◌else◌}
 use Rattle.wire.specs.declared.kinds.Name.{Name}
 use Rattle.wire.specs.declared.kinds.SessionId.{SessionId}
+use Rattle.wire.specs.declared.refusal.Refusal.TheVariants.{OtherSession, NotForRecord}
 use Rattle.wire.proofs.Checks.{not-both, all-passed, went}
 use Rattle.ufo.specs.Down as ufo
 use Rattle.memx.specs.Packet as memx
@@ -26,8 +27,8 @@ reported-ufo name d report e = let w = went (ufo.read d) of_ufo report e in by w
   by : (p : ufo.Packet) → ufo.read d ≡ taken p → of_ufo p ≡ taken report
       → ((first : ℕ) × (ms : List (List ℕ)) × (ufo.read d ≡ taken (ufo.messages first ms)))
       ⊎ ((total : ℕ) × (ufo.read d ≡ taken (ufo.end total)))
-  by (ufo.accept session next) q f = not-both (refused 16) 16 report refl f
-  by (ufo.reject reason) q f = not-both (refused 16) 16 report refl f
+  by (ufo.accept session next) q f = not-both (refused NotForRecord) 16 report refl f
+  by (ufo.reject reason) q f = not-both (refused NotForRecord) 16 report refl f
   by (ufo.messages first ms) q f = inl (first, ms, q)
   by (ufo.end total) q f = inr (total, q)
 
@@ -42,7 +43,7 @@ pub reported-memx : (own : SessionId) (d : List ℕ) (report : Report) → repor
 unfolding report_of
 reported-memx own d report e = let w = went (memx_read.read d) (of_memx own.0) report e in (w.by, w.was, by w.by w.gave) where
   same : (session : ℕ) (said : Report) → owned own.0 session said ≡ taken report → session ≡ own.0
-  same session said f = eqb-true session own.0 (all-passed ((session is own.0 else 11) ∷ []) (taken said) report f).0.0
+  same session said f = eqb-true session own.0 (all-passed ((session is own.0 else OtherSession) ∷ []) (taken said) report f).0.0
 
   by : (p : memx.Packet) → of_memx own.0 p ≡ taken report → session_of p ≡ own.0
   by (memx.heartbeat session highest extra) f = same session (news highest) f

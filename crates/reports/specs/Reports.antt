@@ -2,6 +2,7 @@
 -- Assumes nothing.
 use Rattle.std.specs.Prelude.{ℕ, ◌+◌, ◌-◌, ◌^◌, ◌≤◌, ◌<◌, ◌≡◌, List, [], ◌∷◌, Bool, true, false, length, drop}
 use Rattle.wire.specs.Checks.{◌is◌, Verdict, refused, taken, ◌else◌, checked, ◌into◌}
+use Rattle.wire.specs.declared.refusal.Refusal.TheVariants.{OtherSession, NotForRecord}
 use Rattle.blocks.specs.Blocks.{cut, messages_of, fills}
 use Rattle.ufo.specs.Down as ufo
 use Rattle.memx.specs.Packet as memx
@@ -30,14 +31,14 @@ is_end (end total) = true
 
 -- `A` and `J` are not for the record; `S` and `E` name no session, so that whatever comes is taken for the record's
 abbrev pub of_ufo : ufo.Packet → Verdict Report
-of_ufo (ufo.accept session next) = refused 16
-of_ufo (ufo.reject reason) = refused 16
+of_ufo (ufo.accept session next) = refused NotForRecord
+of_ufo (ufo.reject reason) = refused NotForRecord
 of_ufo (ufo.messages first ms) = taken (messages first ms)
 of_ufo (ufo.end total) = taken (end total)
 
 -- a MEMX packet names its session, and only the record's own is reported: Whose.reported-memx
 abbrev pub owned : ℕ → ℕ → Report → Verdict Report
-owned own session report = checked ((session is own else 11) ∷ []) (taken report)
+owned own session report = checked ((session is own else OtherSession) ∷ []) (taken report)
 
 -- a shutdown is an end whose total is the highest number
 abbrev pub of_memx : ℕ → memx.Packet → Verdict Report

@@ -13,14 +13,14 @@ use record::Session;
 use ufo::down;
 use ufo::down::Down;
 use wire::kinds::{Sequence, SessionId};
-use wire::refusal;
+use wire::refusal::Refusal;
 
 // Where the blocks of UFO messages begin.
 const UFO_BLOCKS: usize = 7;
 
 #[derive(Clone, Copy)]
 pub enum Reported {
-    Refused(u8),
+    Refused(Refusal),
     // Their blocks stand from the place to the datagram's end.
     Messages {
         first: Sequence,
@@ -51,8 +51,8 @@ fn ufo_report(datagram: &[u8]) -> Reported
         Down::Accept {
             session: _,
             next: _,
-        } => Reported::Refused(refusal::NOT_FOR_RECORD),
-        Down::Reject { reason: _ } => Reported::Refused(refusal::NOT_FOR_RECORD),
+        } => Reported::Refused(Refusal::NotForRecord),
+        Down::Reject { reason: _ } => Reported::Refused(Refusal::NotForRecord),
     }
 }
 
@@ -63,7 +63,7 @@ fn owned(own: SessionId, session: SessionId, report: Reported) -> Reported
     if session.0 == own.0 {
         report
     } else {
-        Reported::Refused(refusal::OTHER_SESSION)
+        Reported::Refused(Refusal::OtherSession)
     }
 }
 

@@ -9,7 +9,6 @@ use lib.Seq.{take-append_seam}
 use Rattle.wire.specs.Checks.{Verdict, refused, taken}
 use Rattle.wire.specs.Reply.{Reply, Settled}
 use Rattle.wire.specs.declared.kinds.Sequence.{Sequence}
-use Rattle.wire.specs.declared.output.Written.{Written}
 use Rattle.wire.specs.Fields.{Bytes}
 use Rattle.blocks.specs.Blocks.{frames, end_at}
 use Rattle.blocks.proofs.Frames.{short-frames}
@@ -45,7 +44,7 @@ end-left s r e = by (declaring s.log s.lent) refl e where
   by (taken k) d q = rw (q, (declared s.log s.lent k d).3)
 
 -- what a writer laid down
-datagram-left : (v : Reply) (out : List ℕ) (r : Written) (left : List ℕ) → Settled v out r left → written r left ≡ sent v
+datagram-left : (v : Reply) (out : List ℕ) (r : Verdict ℕ) (left : List ℕ) → Settled v out r left → written r left ≡ sent v
 unfolding sent
 datagram-left (refused n) out r left e = rw e.answer
 datagram-left (taken d) out r left e = rw (e.answer, e.bytes, take-append_seam d (drop (length d) out))

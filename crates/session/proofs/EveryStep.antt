@@ -10,6 +10,7 @@ use native.Mathlib.Omega.{arith}
 use lib.ListN.{length}
 use Rattle.wire.specs.Checks.{Verdict, refused, taken}
 use Rattle.wire.specs.Reply.{Reply}
+use Rattle.wire.specs.declared.refusal.Refusal.TheVariants.{NotForRecord}
 use Rattle.wire.proofs.Checks.{not-both}
 use Rattle.blocks.specs.Blocks.{frames}
 use Rattle.ufo.specs.Down as ufo
@@ -151,7 +152,7 @@ module _ (s : State) (i : Inv s) where
       by (taken t) e = rw (took-so room t e) arrived
 
   module _ (d : List ℕ) where
-    pub passed-by : LoginAnswer d → (room : ℕ) → taking s.kept s.area d room ≡ refused 16
+    pub passed-by : LoginAnswer d → (room : ℕ) → taking s.kept s.area d room ≡ refused NotForRecord
     passed-by l room = refuses-login s.kept s.area i.named.name i.named.ufo hung-record i.hold.sound d l room
 
     -- what reports something, or is taken, is vouched for

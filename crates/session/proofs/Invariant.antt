@@ -14,6 +14,7 @@ use Rattle.wire.specs.Checks.{taken, ◌else◌}
 use Rattle.names.specs.Names.{name_bytes}
 use Rattle.text.specs.Text.{blank, text_then_spaces}
 use Rattle.wire.specs.declared.kinds.Name.{Name}
+use Rattle.wire.specs.declared.refusal.Refusal.TheVariants.{Form, Absent}
 use Rattle.wire.proofs.Checks.{all-passed}
 use Rattle.blocks.specs.Blocks.{cut}
 use Rattle.lent_log.specs.Log.{small, hangs}
@@ -105,7 +106,7 @@ opened : (session : Name) (kept : Record) → opening session ≡ taken kept →
 opened session kept e =
     let a = text_then_spaces (name_bytes session) in
     let b = not (blank (name_bytes session)) in
-    let p = all-passed ((a else 5) ∷ (b else 6) ∷ []) (taken (fresh (Ufo session))) kept e in
+    let p = all-passed ((a else Form) ∷ (b else Absent) ∷ []) (taken (fresh (Ufo session))) kept e in
     let same : kept ≡ fresh (Ufo session) = cc p.1 in
     (rw same (record { name = session; ufo = refl; lawful = rw (p.0.0, p.0.1.0) }), same)
 

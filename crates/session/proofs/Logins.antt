@@ -10,6 +10,7 @@ use lib.ListN.{length, length-append}
 use Rattle.wire.specs.Checks.{refused, taken, ◌into◌}
 use Rattle.wire.specs.Reply.{within}
 use Rattle.wire.specs.declared.kinds.Name.{Name}
+use Rattle.wire.specs.declared.refusal.Refusal.TheVariants.{NotForRecord}
 use Rattle.wire.proofs.Checks.{not-both, all-passed, passed-all}
 use Rattle.wire.proofs.Settling.{within-taken}
 use Rattle.wire.proofs.Width.{length-bytes_of}
@@ -44,7 +45,7 @@ reject-answers reason room d e =
     let same : ufo.write packet ≡ d = within-taken room (ufo.write packet) d p.1 in
     rejected reason (ap ufo.read (sym same) ∙ laid-reject reason ∙ passed-all (of_reject reason) (taken packet) p.0)
 
-no-report : (d : List ℕ) → LoginAnswer d → ufo.read d into of_ufo ≡ refused 16
+no-report : (d : List ℕ) → LoginAnswer d → ufo.read d into of_ufo ≡ refused NotForRecord
 no-report d (accepted session next e) = rw e
 no-report d (rejected reason e) = rw e
 
@@ -54,6 +55,6 @@ pub reports-none : {C : Type 0} (d : List ℕ) (p : ufo.Packet) (report : Report
 reports-none d p report l e f = not-both (ufo.read d into of_ufo) 16 report (no-report d l) (rw e f)
 
 pub refuses-login : (r : Record) (area : List ℕ) (name : Name) → r.session ≡ Ufo name → hangs r ≡ true → sound r.held area ≡ true
-    → (d : List ℕ) → LoginAnswer d → (room : ℕ) → taking r area d room ≡ refused 16
+    → (d : List ℕ) → LoginAnswer d → (room : ℕ) → taking r area d room ≡ refused NotForRecord
 unfolding taking report_of
 refuses-login r area name u h s d l room = rw (h, s, u, no-report d l)

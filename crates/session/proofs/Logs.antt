@@ -7,6 +7,7 @@ use mathlib.Core.Bool.{true, false≢true}
 use lib.ListN.{length}
 use Rattle.wire.specs.Fields.{Bytes}
 use Rattle.wire.specs.Checks.{taken, ◌else◌}
+use Rattle.wire.specs.declared.refusal.Refusal.TheVariants.{Framing}
 use Rattle.wire.proofs.Checks.{all-passed}
 use Rattle.blocks.specs.Blocks.{frames, is_whole, messages_of, Each, Short}
 use Rattle.blocks.proofs.Cutting.{cut-frames, frames-cut}
@@ -38,7 +39,7 @@ many-whole : (l : Log) (s f : List ℕ) (k : Kept) → adding_many l s f ≡ tak
 unfolding adding_many
 many-whole l s f k e =
     let ms : List (List ℕ) = messages_of (to_the_end f) in
-    (all-passed (growing l s ++ ((is_whole (to_the_end f) else 4) ∷ fitting l s ms)) (taken (extended l s ms)) k e).0.1.1.0
+    (all-passed (growing l s ++ ((is_whole (to_the_end f) else Framing) ∷ fitting l s ms)) (taken (extended l s ms)) k e).0.1.1.0
 
 module _ (l : Log) (s : List ℕ) (h : Hung l s) (k : Kept) where
   more_left : (ms : List (List ℕ)) → Each Bytes ms → Fits l s ms × (k ≡ extended l s ms) × Grown l s ms k → LogAfter l s k

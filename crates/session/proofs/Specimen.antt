@@ -19,6 +19,7 @@ use Rattle.wire.specs.Checks.{◌at_most◌, refused, taken}
 use Rattle.names.specs.Names.{name_of}
 use Rattle.text.specs.Text.{letter_or_digit, blank, text_then_spaces}
 use Rattle.wire.specs.declared.kinds.Name.{Name}
+use Rattle.wire.specs.declared.refusal.Refusal.TheVariants.{NotForRecord}
 use Rattle.wire.proofs.Width.{bytes-cons}
 use Rattle.wire.proofs.Tests.{and_left, and_right}
 use Rattle.blocks.specs.Blocks.{frames, cut, cut_full}
@@ -188,7 +189,7 @@ module _ (area : List ℕ) where
 
 module _ (area : List ℕ) (slots : area_size ≤ length area) where
   -- what the recorder makes of each datagram
-  of-welcome : taking (fresh (Ufo session)) area welcome enough ≡ refused 16
+  of-welcome : taking (fresh (Ufo session)) area welcome enough ≡ refused NotForRecord
   unfolding worked-out
   of-welcome = rw (none-sound area slots)
 

@@ -8,6 +8,7 @@ use native.Mathlib.Omega.{arith}
 use lib.ListN.{length}
 use Rattle.wire.specs.Checks.{Verdict, refused, taken, ◌else◌}
 use Rattle.wire.specs.declared.kinds.Name.{Name}
+use Rattle.wire.specs.declared.refusal.Refusal.TheVariants.{Broken}
 use Rattle.wire.proofs.Checks.{all-passed}
 use Rattle.missing.specs.Missing.{◌at◌}
 use Rattle.missing.specs.declared.Range.{Range}
@@ -29,7 +30,7 @@ module _ (kept : Record) where
   -- a record of which something is missing hangs together, so it is not refused where its ranges are asked for
   hangs-if-told : (told : State) → standing kept ≡ taken told → hangs kept ≡ true
   unfolding standing
-  hangs-if-told told e = (all-passed ((hangs kept else 10) ∷ []) (taken (state kept)) told e).0.0
+  hangs-if-told told e = (all-passed ((hangs kept else Broken) ∷ []) (taken (state kept)) told e).0.0
 
   range_at_lem : hangs kept ≡ true → (place : ℕ) → range_at kept place ≡ taken (missing_of kept at place)
   unfolding range_at

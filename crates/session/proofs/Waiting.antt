@@ -14,6 +14,7 @@ use lib.Ieee.Order.{le_of_values}
 use lib.Ieee.Positive.{num, den, positive, den_pos, own_value, first_pos, cross→le, le_trans_positive, between}
 use denote.Floats.{passes}
 use Rattle.wire.specs.Checks.{taken, ◌else◌}
+use Rattle.wire.specs.declared.refusal.Refusal.TheVariants.{Broken, Range}
 use Rattle.wire.proofs.Checks.{all-passed}
 use Rattle.wire.proofs.Tests.{impossible}
 use Rattle.clock.specs.Milliseconds as clock
@@ -71,7 +72,7 @@ lasts-so sheet (Measured floor ceiling) w s r e =
 
 pub wait-ends : (sheet : Sheet) (rule : Patience) (w : Float) → waiting sheet rule ≡ taken (some w) → wait_over sheet rule w ≡ taken true
 wait-ends sheet rule w e =
-    let p = all-passed ((sound sheet else 10) ∷ (in_range rule else 15) ∷ []) (taken (wait_under sheet rule)) (some w) e in
+    let p = all-passed ((sound sheet else Broken) ∷ (in_range rule else Range) ∷ []) (taken (wait_under sheet rule)) (some w) e in
     let u : wait_under sheet rule ≡ some w = cc p.1 in
     let d = lasts-so sheet rule w p.0.0 p.0.1.0 u in
     rw (p.0.0, p.0.1.0, d.0, u, d.1)

@@ -10,8 +10,6 @@ use Rattle.wire.specs.Checks.{Verdict, refused, taken}
 use Rattle.wire.specs.Fields.{Bytes}
 use Rattle.wire.specs.declared.kinds.Name.{Name}
 use Rattle.wire.specs.declared.kinds.Sequence.{Sequence}
-use Rattle.wire.specs.declared.output.Written.{Written}
-use Rattle.wire.specs.declared.output.Written.TheVariants as output
 use Rattle.blocks.specs.Blocks.{cut, messages_of}
 use Rattle.ufo_up.specs.declared.up.Up.{Up}
 use Rattle.ufo_up.specs.declared.up.Up.TheVariants as up
@@ -65,9 +63,9 @@ with_log s (logged.After log) left =
     record { log = log; lent = left; kept = s.kept; area = s.area; deliveries = s.deliveries; down = s.down; up = s.up }
 
 -- the datagram at the output's start
-abbrev pub written : Written → List ℕ → List (List ℕ)
-written (output.Refused n) left = []
-written (output.Bytes n) left = take n left ∷ []
+abbrev pub written : Verdict ℕ → List ℕ → List (List ℕ)
+written (refused n) left = []
+written (taken n) left = take n left ∷ []
 
 -- as many messages as the answer says, in as many bytes from the output's start
 abbrev pub handed : Taken → List ℕ → List (List ℕ)

@@ -2,6 +2,7 @@
 -- Assumes nothing.
 use Rattle.std.specs.Prelude.{ℕ, suc, ◌+◌, ◌-◌, ◌≤◌, ◌<◌, ◌≡◌, ◌↔◌, ◌⊎◌, List, [], ◌∷◌, Bool, true, false, Float, length, take, get_or}
 use Rattle.wire.specs.Checks.{Verdict, refused, taken}
+use Rattle.wire.specs.declared.refusal.Refusal.TheVariants.{NotForRecord}
 use Rattle.blocks.specs.Blocks.{frames}
 use Rattle.ufo.specs.Down as ufo
 use Rattle.ufo_up.specs.Up.{request, read_up}
@@ -50,7 +51,7 @@ pub data LoginAnswer (d : List ℕ) : Type 0 where
 pub data Received (s : State) (datagram : List ℕ) (room : ℕ) : Type 0 where
   took : (t : Taking) → taking s.kept s.area datagram room ≡ taken t → Received s datagram room
   passed : LoginAnswer datagram
-      → taking s.kept s.area datagram room ≡ refused 16
+      → taking s.kept s.area datagram room ≡ refused NotForRecord
       → step s (takes datagram room) ≡ s
       → Received s datagram room
 

@@ -10,6 +10,7 @@ use borrow.Author.Tests.{le-leb, lt-leb, leb-false, leb-true}
 use lib.Dec.{leb}
 use Rattle.wire.specs.Checks.{taken, ◌else◌}
 use Rattle.wire.specs.declared.kinds.Tick.{Tick}
+use Rattle.wire.specs.declared.refusal.Refusal.TheVariants.{Clock}
 use Rattle.wire.proofs.Tests.{failed}
 use Rattle.wire.proofs.Checks.{all-passed, taken-same}
 use Rattle.silence.specs.Silence.{exceeds}
@@ -17,7 +18,7 @@ use Rattle.silence.specs.Silence.{exceeds}
 module _ (limit : ℕ) (now last : Tick) where
   passes : exceeds limit now last ≡ taken true → last.0 + limit < now.0
   passes e =
-      let p = all-passed ((leb last.0 now.0 else 14) ∷ []) (taken (not (leb (now.0 - last.0) limit))) true e in
+      let p = all-passed ((leb last.0 now.0 else Clock) ∷ []) (taken (not (leb (now.0 - last.0) limit))) true e in
       let early = leb-true last.0 now.0 p.0.0 in
       let more : leb (now.0 - last.0) limit ≡ false = failed refl (taken-same (not (leb (now.0 - last.0) limit)) true p.1) in
       let long = leb-false (now.0 - last.0) limit more in

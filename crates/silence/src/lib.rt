@@ -7,13 +7,13 @@ ghost use Rattle.silence.specs.Silence.{exceeds};
 
 use clock::answer::Said;
 use wire::kinds::Tick;
-use wire::refusal::CLOCK;
+use wire::refusal::Refusal;
 
 fn exceeds(limit: u64, now: Tick, last: Tick) -> Said
     ensures { result ≡ said_of (exceeds limit now last) }
 {
     if now.0 < last.0 {
-        return Said::Refused(CLOCK);
+        return Said::Refused(Refusal::Clock);
     }
     if limit < now.0 - last.0 {
         Said::Yes

@@ -7,6 +7,7 @@ use mathlib.Core.List.{List, ◌∷◌, ◌++◌}
 use mathlib.Core.Bool.{Bool, true, ◌||◌}
 use lib.ListN.{get_or}
 use Rattle.wire.specs.Checks.{◌is◌, refused, taken, Check, ◌else◌, checked, ordered}
+use Rattle.wire.specs.declared.refusal.Refusal.TheVariants.{UnknownType}
 use Rattle.wire.proofs.Numbered.{numbered, never-taken}
 use Rattle.decimal.specs.Decimal.{value_of}
 use Rattle.soup.specs.Packet.{Packet, debug, accept, reject, sequenced, server_heartbeat, end_of_session, login, unsequenced}
@@ -30,7 +31,7 @@ type_checks kind d =
 
 -- all that is checked of a packet, in one list
 abbrev from_type : ℕ → List ℕ → List Check
-from_type kind d = (known kind else 3) ∷ type_checks kind d
+from_type kind d = (known kind else UnknownType) ∷ type_checks kind d
 
 abbrev pub all_checks : List ℕ → List Check
 all_checks d = opening d ++ from_type (get_or d 0 0) d

@@ -8,6 +8,7 @@ use lib.ListN.{length, get_or, drop, length-drop}
 use lib.Seq.{length-take-le}
 use borrow.Author.Tests.{le-leb, lt-leb}
 use Rattle.wire.specs.Checks.{refused, taken, checked}
+use Rattle.wire.specs.declared.refusal.Refusal.TheVariants.{Empty, Overlong}
 use Rattle.soup.specs.Packet.{Packet, line_limit}
 use Rattle.soup.specs.Read.{payload, line_checks, sized_checks, by_type, read}
 use Rattle.soup.specs.Reading.{packet_of, reading_of, fault, or_refused}
@@ -15,11 +16,11 @@ use Rattle.soup.specs.declared.reading.Reading.{Reading}
 use Rattle.soup.proofs.Faults.{reading-of}
 
 module _ (d : List ℕ) where
-  pub empty : length d ≡ 0 → read d ≡ refused 1
+  pub empty : length d ≡ 0 → read d ≡ refused Empty
   unfolding read
   empty h = rw (lt-leb 1 (length d) (omega arith))
 
-  pub overlong : line_limit < length d → read d ≡ refused 2
+  pub overlong : line_limit < length d → read d ≡ refused Overlong
   unfolding read
   overlong h = rw (le-leb 1 (length d) (omega arith), lt-leb (length d) line_limit h)
 

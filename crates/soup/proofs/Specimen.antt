@@ -5,6 +5,7 @@ use mathlib.Core.Path.{◌≡◌, refl}
 use mathlib.Core.List.{List, [], ◌∷◌, ◌++◌}
 use lib.ListN.{replicate}
 use Rattle.wire.specs.Checks.{refused, taken}
+use Rattle.wire.specs.declared.refusal.Refusal.TheVariants.{Framing, Form, Absent, Bound, Linefeed}
 use Rattle.text.specs.Text.{letter_or_digit, blank, text, text_then_spaces, spaces_then_text}
 use Rattle.decimal.specs.Decimal.{digit, digits, trimmed, well_formed, spelt, value_of, character, places, written}
 use Rattle.soup.specs.Packet.{accept, login, line}
@@ -26,11 +27,11 @@ pub next_one : read (accepted (replicate 19 32 ++ 49 ∷ [])) ≡ taken (accept 
 unfolding read accept_of unbroken spaces_then_text text letter_or_digit blank well_formed value_of trimmed digits digit spelt
 next_one = refl
 
-pub twenty-spaces : read (accepted (replicate 20 32)) ≡ refused 6
+pub twenty-spaces : read (accepted (replicate 20 32)) ≡ refused Absent
 unfolding read accept_of unbroken spaces_then_text text letter_or_digit blank well_formed value_of trimmed digits digit spelt
 twenty-spaces = refl
 
-pub one-too-many : read (accepted (nineteen ++ 54 ∷ [])) ≡ refused 7
+pub one-too-many : read (accepted (nineteen ++ 54 ∷ [])) ≡ refused Bound
 unfolding read accept_of unbroken spaces_then_text text letter_or_digit blank well_formed value_of trimmed digits digit spelt
 one-too-many = refl
 
@@ -51,12 +52,12 @@ unfolding spelling spelt_anew value_of trimmed spelt written places character
 spelt-as-we-write = refl
 
 -- a nought, and then a space
-pub nought-then-space : read (accepted (replicate 18 48 ++ 32 ∷ 49 ∷ [])) ≡ refused 5
+pub nought-then-space : read (accepted (replicate 18 48 ++ 32 ∷ 49 ∷ [])) ≡ refused Form
 unfolding read accept_of unbroken spaces_then_text text letter_or_digit blank well_formed value_of trimmed digits digit spelt
 nought-then-space = refl
 
 -- twenty noughts, in Login Accepted and in a login; the user is ME
-pub twenty-noughts : read (accepted (replicate 20 48)) ≡ refused 6
+pub twenty-noughts : read (accepted (replicate 20 48)) ≡ refused Absent
 unfolding read accept_of unbroken spaces_then_text text letter_or_digit blank well_formed value_of trimmed digits digit spelt
 twenty-noughts = refl
 
@@ -72,10 +73,10 @@ unfolding read login_of unbroken text_then_spaces spaces_then_text text letter_o
 login-from-nought = refl
 
 -- a type byte alone, and a reason that is a linefeed
-pub type-alone : read (74 ∷ []) ≡ refused 4
+pub type-alone : read (74 ∷ []) ≡ refused Framing
 unfolding read
 type-alone = refl
 
-pub linefeed-for-reason : read (74 ∷ 10 ∷ 10 ∷ []) ≡ refused 8
+pub linefeed-for-reason : read (74 ∷ 10 ∷ 10 ∷ []) ≡ refused Linefeed
 unfolding read unbroken
 linefeed-for-reason = refl

@@ -9,6 +9,7 @@ use native.Mathlib.Omega.{arith}
 use lib.ListN.{length}
 use borrow.Author.Tests.{ne_eqb, leb-false}
 use Rattle.wire.specs.Checks.{◌is◌, ◌at_most◌, Verdict, taken, refused, ◌else◌, checked}
+use Rattle.wire.specs.declared.refusal.Refusal.TheVariants.{Form, Absent, Bound}
 use Rattle.wire.proofs.Tests.{by-test}
 use Rattle.wire.proofs.Checks.{checked-both, checked-neither}
 use Rattle.text.specs.Text.{blank, text_then_spaces, spaces_then_text}
@@ -21,10 +22,10 @@ use Rattle.soup.specs.Read.{accept_of, login_of}
 -- the verdict by what the number came to, where the texts are padded as they should be: `absent` says that a text is blank which may not
 -- be, `void` of a number that it may not stand there
 abbrev pub by_number : (absent : Bool) (void : ℕ → Bool) (packet : ℕ → Packet) → Number → Verdict Packet
-by_number absent void packet Misshapen = refused 5
-by_number absent void packet Blank = refused 6
-by_number absent void packet Over = if absent then refused 6 else refused 7
-by_number absent void packet (Is n) = if absent || void n then refused 6 else taken (packet n)
+by_number absent void packet Misshapen = refused Form
+by_number absent void packet Blank = refused Absent
+by_number absent void packet Over = if absent then refused Absent else refused Bound
+by_number absent void packet (Is n) = if absent || void n then refused Absent else taken (packet n)
 
 -- an `A` has a session and a number that is not 0, an `L` a user
 abbrev pub accept_by : (session : List ℕ) → Number → Verdict Packet
@@ -36,7 +37,7 @@ login_by user password session n = by_number (blank user) (λ v. false) (login u
 -- a number over the bound is not void
 module _ (absent : Bool) (void : ℕ → Bool) (packet : ℕ → Packet) (bounded : (v : ℕ) → v at_most 2 ^ 64 - 1 ≡ false → void v ≡ false) where
   -- once the number is well formed and not blank
-  by_value : (v : ℕ) → checked ((not absent else 6) ∷ (not (void v) else 6) ∷ (v at_most 2 ^ 64 - 1 else 7) ∷ [])
+  by_value : (v : ℕ) → checked ((not absent else Absent) ∷ (not (void v) else Absent) ∷ (v at_most 2 ^ 64 - 1 else Bound) ∷ [])
       (taken (packet v)) ≡ by_number absent void packet (fitted v)
   by_value v =
       by-test (v at_most 2 ^ 64 - 1)
@@ -44,8 +45,8 @@ module _ (absent : Bool) (void : ℕ → Bool) (packet : ℕ → Packet) (bounde
       (λ u. rw (u, bounded v u) (by-test absent (λ s. rw s) (λ s. rw s)))
 
   by_number_lem : (number : List ℕ) → length number ≡ 20
-      → checked ((well_formed number else 5) ∷ (not absent else 6) ∷ (not (blank number) else 6) ∷ (not (void (value_of number)) else 6)
-      ∷ (value_of number at_most 2 ^ 64 - 1 else 7) ∷ []) (taken (packet (value_of number)))
+      → checked ((well_formed number else Form) ∷ (not absent else Absent) ∷ (not (blank number) else Absent) ∷ (not (void (value_of number)) else Absent)
+      ∷ (value_of number at_most 2 ^ 64 - 1 else Bound) ∷ []) (taken (packet (value_of number)))
       ≡ by_number absent void packet (number_of number)
   unfolding number_of
   by_number_lem number l =
@@ -57,7 +58,7 @@ module _ (absent : Bool) (void : ℕ → Bool) (packet : ℕ → Packet) (bounde
       (λ f. rw (l, f))
 
 pub accept-together : (session number : List ℕ) → length number ≡ 20
-    → accept_of session number ≡ (if spaces_then_text session then accept_by session (number_of number) else refused 5)
+    → accept_of session number ≡ (if spaces_then_text session then accept_by session (number_of number) else refused Form)
 unfolding accept_of
 accept-together session number l =
     by-test (spaces_then_text session)
@@ -71,16 +72,16 @@ pub login-together : (user password session number : List ℕ) → length number
     → login_of user password session number
     ≡ (if text_then_spaces user && text_then_spaces password && spaces_then_text session then login_by user password session
     (number_of number)
-    else refused 5)
+    else refused Form)
 unfolding login_of
 login-together user password session number l =
     let u = text_then_spaces user in
     let p = text_then_spaces password in
     let s = spaces_then_text session in
-    let bound = (value_of number at_most 2 ^ 64 - 1 else 7) in
-    let rest = (well_formed number else 5) ∷ (not (blank user) else 6) ∷ (not (blank number) else 6) ∷ bound ∷ [] in
+    let bound = (value_of number at_most 2 ^ 64 - 1 else Bound) in
+    let rest = (well_formed number else Form) ∷ (not (blank user) else Absent) ∷ (not (blank number) else Absent) ∷ bound ∷ [] in
     let v = taken (login user password session (value_of number)) in
-    checked-both 5 u p ((s else 5) ∷ rest) v
+    checked-both 5 u p ((s else Form) ∷ rest) v
     ∙ checked-both 5 (u && p) s rest v
     ∙ by-test (u && p && s) (λ t. rw t (by_number_lem (blank user) (λ n. false) (login user password session) (λ n e. refl) number l))
     (λ t. rw t)

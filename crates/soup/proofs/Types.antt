@@ -6,6 +6,7 @@ use mathlib.Core.List.{List}
 use mathlib.Core.Bool.{false}
 use borrow.Author.Tests.{eqb-true}
 use Rattle.wire.specs.Checks.{◌is◌, refused}
+use Rattle.wire.specs.declared.refusal.Refusal.TheVariants.{UnknownType}
 use Rattle.wire.proofs.Tests.{by-test}
 use Rattle.soup.specs.Read.{by_type}
 
@@ -56,7 +57,7 @@ module _ (P : ℕ → Type 0) (kind : ℕ) where
       })))))))))))
 
 -- a byte that is none of them is refused as 3
-pub unknown-is-3 : (kind : ℕ) (d : List ℕ) → Unknown kind → by_type kind d ≡ refused 3
+pub unknown-is-3 : (kind : ℕ) (d : List ℕ) → Unknown kind → by_type kind d ≡ refused UnknownType
 unknown-is-3 kind d u = rw (
   u.debug,
   u.accept,

@@ -2,6 +2,7 @@
 -- Assumes nothing.
 use Rattle.std.specs.Prelude.{ℕ, ◌-◌, ◌^◌, List, [], ◌∷◌, Bool, true, not, ◌&&◌, ◌||◌, length, get_or, take, drop, if◌then◌else◌}
 use Rattle.wire.specs.Checks.{◌is◌, ◌at_most◌, Verdict, refused, taken, Check, ◌else◌, checked}
+use Rattle.wire.specs.declared.refusal.Refusal.TheVariants.{Empty, Overlong, UnknownType, Framing, Form, Absent, Bound, Linefeed}
 use Rattle.text.specs.Text.{blank, text_then_spaces, spaces_then_text}
 use Rattle.decimal.specs.Decimal.{well_formed, value_of}
 use Rattle.soup.specs.Packet.{Packet, debug, accept, reject, sequenced, server_heartbeat, end_of_session, login, unsequenced}
@@ -29,43 +30,43 @@ unbroken (b ∷ s) = not (b is 10) && unbroken s
 
 abbrev pub opening : List ℕ → List Check
 opening d =
-    (1 at_most length d else 1)
-    ∷ (length d at_most line_limit else 2)
+    (1 at_most length d else Empty)
+    ∷ (length d at_most line_limit else Overlong)
     ∷ []
 
 -- the only linefeed is the last byte
 abbrev pub line_checks : List ℕ → List Check
 line_checks d =
-    (last d is 10 else 4)
-    ∷ (unbroken (front d) else 8)
+    (last d is 10 else Framing)
+    ∷ (unbroken (front d) else Linefeed)
     ∷ []
 
 -- and there are n bytes in all
 abbrev pub sized_checks : ℕ → List ℕ → List Check
-sized_checks n d = (length d is n else 4) ∷ line_checks d
+sized_checks n d = (length d is n else Framing) ∷ line_checks d
 
 abbrev pub reject_checks : (reason : ℕ) → List Check
-reject_checks reason = (reason is 65 || reason is 83 else 5) ∷ []
+reject_checks reason = (reason is 65 || reason is 83 else Form) ∷ []
 
 abbrev pub accept_checks : (session number : List ℕ) → List Check
 accept_checks session number =
-    (spaces_then_text session else 5)
-    ∷ (well_formed number else 5)
-    ∷ (not (blank session) else 6)
-    ∷ (not (blank number) else 6)
-    ∷ (not (value_of number is 0) else 6)
-    ∷ (value_of number at_most 2 ^ 64 - 1 else 7)
+    (spaces_then_text session else Form)
+    ∷ (well_formed number else Form)
+    ∷ (not (blank session) else Absent)
+    ∷ (not (blank number) else Absent)
+    ∷ (not (value_of number is 0) else Absent)
+    ∷ (value_of number at_most 2 ^ 64 - 1 else Bound)
     ∷ []
 
 abbrev pub login_checks : (user password session number : List ℕ) → List Check
 login_checks user password session number =
-    (text_then_spaces user else 5)
-    ∷ (text_then_spaces password else 5)
-    ∷ (spaces_then_text session else 5)
-    ∷ (well_formed number else 5)
-    ∷ (not (blank user) else 6)
-    ∷ (not (blank number) else 6)
-    ∷ (value_of number at_most 2 ^ 64 - 1 else 7)
+    (text_then_spaces user else Form)
+    ∷ (text_then_spaces password else Form)
+    ∷ (spaces_then_text session else Form)
+    ∷ (well_formed number else Form)
+    ∷ (not (blank user) else Absent)
+    ∷ (not (blank number) else Absent)
+    ∷ (value_of number at_most 2 ^ 64 - 1 else Bound)
     ∷ []
 
 unfoldable pub reject_of : (reason : ℕ) → Verdict Packet
@@ -101,7 +102,7 @@ by_type kind d =
     else if kind is 85 then checked (line_checks d) (taken (unsequenced (payload d)))
     else if kind is 82 then checked (sized_checks 2 d) (taken client_heartbeat)
     else if kind is 79 then checked (sized_checks 2 d) (taken logout)
-    else refused 3
+    else refused UnknownType
 
 -- Order shows that this is one list of checks, in the readers' order
 unfoldable pub read : List ℕ → Verdict Packet

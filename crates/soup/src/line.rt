@@ -3,7 +3,7 @@ ghost use Rattle.std.specs.Prelude.{◌≡◌, ◌-◌, length};
 ghost use Rattle.soup.specs.Read.{unbroken, line_checks, sized_checks};
 ghost use Rattle.soup.specs.Reading.{fault};
 
-use wire::refusal;
+use wire::refusal::Refusal;
 
 // The most bytes of a packet, its linefeed among them: `line_limit`.
 pub const LONGEST: usize = 4098;
@@ -29,16 +29,16 @@ pub(crate) fn line_fault(d: &[u8]) -> u8
     ensures { result ≡ fault (line_checks d.now) }
 {
     if d.len() == 0 {
-        return refusal::FRAMING;
+        return Refusal::Framing;
     }
     let end = d.len() - 1;
     if d[end] != b'\n' {
-        return refusal::FRAMING;
+        return Refusal::Framing;
     }
     if is_unbroken(&d[..end]) {
         0
     } else {
-        refusal::LINEFEED
+        Refusal::Linefeed
     }
 }
 
@@ -49,7 +49,7 @@ pub(crate) fn sized_fault(d: &[u8], size: usize) -> u8
     if d.len() == size {
         line_fault(d)
     } else {
-        refusal::FRAMING
+        Refusal::Framing
     }
 }
 

@@ -6,12 +6,12 @@ ghost use Rattle.soup.specs.Reading.{reading_of, fault, or_refused};
 use crate::line;
 use decimal::Number;
 use wire::kinds::{Name, Password, Sequence, User};
-use wire::refusal;
+use wire::refusal::Refusal;
 
 // What a packet says. A payload is told by its place in the packet.
 #[derive(Clone, Copy)]
 pub enum Reading {
-    Refused(u8),
+    Refused(Refusal),
     Debug {
         start: usize,
         length: usize,
@@ -71,7 +71,7 @@ fn reject_of(reason: u8) -> Reading
     if (reason == b'A') | (reason == b'S') {
         Reading::Reject { reason }
     } else {
-        Reading::Refused(refusal::FORM)
+        Reading::Refused(Refusal::Form)
     }
 }
 
@@ -80,21 +80,21 @@ fn accept_of(session: &[u8], digits: &[u8]) -> Reading
     ensures { result ≡ reading_of (accept_of session.now digits.now) }
 {
     if !text::is_spaces_then_text(session) {
-        return Reading::Refused(refusal::FORM);
+        return Reading::Refused(Refusal::Form);
     }
     let absent = text::is_blank(session);
     match decimal::read(digits) {
-        Number::Misshapen => Reading::Refused(refusal::FORM),
-        Number::Blank => Reading::Refused(refusal::ABSENT),
+        Number::Misshapen => Reading::Refused(Refusal::Form),
+        Number::Blank => Reading::Refused(Refusal::Absent),
         Number::Over => {
             if absent {
-                return Reading::Refused(refusal::ABSENT);
+                return Reading::Refused(Refusal::Absent);
             }
-            Reading::Refused(refusal::BOUND)
+            Reading::Refused(Refusal::Bound)
         }
         Number::Is(n) => {
             if absent | (n == 0) {
-                return Reading::Refused(refusal::ABSENT);
+                return Reading::Refused(Refusal::Absent);
             }
             Reading::Accept {
                 session: names::get_name(session, 0),
@@ -112,21 +112,21 @@ fn login_of(user: &[u8], password: &[u8], session: &[u8], digits: &[u8]) -> Read
         & text::is_text_then_spaces(password)
         & text::is_spaces_then_text(session);
     if !padded {
-        return Reading::Refused(refusal::FORM);
+        return Reading::Refused(Refusal::Form);
     }
     let nameless = text::is_blank(user);
     match decimal::read(digits) {
-        Number::Misshapen => Reading::Refused(refusal::FORM),
-        Number::Blank => Reading::Refused(refusal::ABSENT),
+        Number::Misshapen => Reading::Refused(Refusal::Form),
+        Number::Blank => Reading::Refused(Refusal::Absent),
         Number::Over => {
             if nameless {
-                return Reading::Refused(refusal::ABSENT);
+                return Reading::Refused(Refusal::Absent);
             }
-            Reading::Refused(refusal::BOUND)
+            Reading::Refused(Refusal::Bound)
         }
         Number::Is(n) => {
             if nameless {
-                return Reading::Refused(refusal::ABSENT);
+                return Reading::Refused(Refusal::Absent);
             }
             Reading::Login {
                 user: names::get_user(user, 0),
@@ -172,10 +172,10 @@ pub fn read(d: &[u8]) -> Reading
     ensures { result ≡ reading_of (read d.now) }
 {
     if d.len() == 0 {
-        return Reading::Refused(refusal::EMPTY);
+        return Reading::Refused(Refusal::Empty);
     }
     if line::LONGEST < d.len() {
-        return Reading::Refused(refusal::OVERLONG);
+        return Reading::Refused(Refusal::Overlong);
     }
     let start = 1;
     let length = line::payload_length(d);
@@ -190,6 +190,6 @@ pub fn read(d: &[u8]) -> Reading
         b'U' => read_payload(d, Reading::Unsequenced { start, length }),
         b'R' => read_bare(d, Reading::ClientHeartbeat),
         b'O' => read_bare(d, Reading::Logout),
-        _ => Reading::Refused(refusal::UNKNOWN_TYPE),
+        _ => Reading::Refused(Refusal::UnknownType),
     }
 }

@@ -5,6 +5,7 @@ use mathlib.Core.Path.{◌≡◌, refl}
 use mathlib.Core.Bool.{true, false}
 use mathlib.Core.List.{List, [], ◌∷◌}
 use Rattle.wire.specs.Checks.{refused, in_order}
+use Rattle.wire.specs.declared.refusal.Refusal.TheVariants.{Broken}
 use Rattle.soup.specs.Read.{read}
 use Rattle.soup_pieces.specs.Machine.{Role, begins, counted, neither, turn_checks, judge}
 use Rattle.soup_pieces.specs.Eating.{ready, call_checks, eating}
@@ -16,7 +17,7 @@ call-order pieces buffer piece place = refl
 
 -- a broken state is 10, wherever the place is
 pub broken-first : (pieces : Pieces) (buffer piece : List ℕ) (place : ℕ) → ready pieces buffer ≡ false
-    → eating pieces buffer piece place ≡ refused 10
+    → eating pieces buffer piece place ≡ refused Broken
 unfolding eating
 broken-first pieces buffer piece place h = rw h
 

@@ -10,6 +10,7 @@ use lib.Seq.{take_all, take-length, split_at, drop-drop}
 use borrow.Author.Tests.{le-leb, lt-leb}
 use Rattle.soup_pieces.specs.Searching.{slice, index_of}
 use Rattle.wire.specs.Checks.{taken}
+use Rattle.wire.specs.declared.refusal.Refusal.TheVariants.{Framing, Broken}
 use Rattle.soup.specs.Read.{unbroken}
 use Rattle.soup_pieces.specs.Machine.{empty, used_up, first}
 use Rattle.soup_pieces.specs.Eating.{machine_of, pieces_of, ready, eating, Returned}
@@ -20,12 +21,12 @@ use Rattle.soup_pieces.proofs.Searches.{unbroken-before, linefeed-there}
 use Rattle.soup_pieces.proofs.Ready.{Readiness, ready-says}
 
 module _ (pieces : Pieces) (buffer piece : List ℕ) (place : ℕ) where
-  pub broken : ready pieces buffer ≡ false → Returned (eating pieces buffer piece place) buffer piece (takes.Refused 10) buffer
+  pub broken : ready pieces buffer ≡ false → Returned (eating pieces buffer piece place) buffer piece (takes.Refused Broken) buffer
   unfolding eating
   broken h = record { answer = rw h; bytes = rw h }
 
   module _ (h : ready pieces buffer ≡ true) where
-    pub past_end : length piece < place → Returned (eating pieces buffer piece place) buffer piece (takes.Refused 4) buffer
+    pub past_end : length piece < place → Returned (eating pieces buffer piece place) buffer piece (takes.Refused Framing) buffer
     unfolding eating
     past_end p = let t = lt-leb place (length piece) p in record { answer = rw (h, t); bytes = rw (h, t) }
 

@@ -8,6 +8,7 @@ use mathlib.Core.Bool.{false}
 use native.Mathlib.Omega.{arith}
 use borrow.Author.Tests.{ne_eqb}
 use Rattle.wire.specs.Checks.{refused, taken}
+use Rattle.wire.specs.declared.refusal.Refusal.TheVariants.{Bound, NotForRecord}
 use Rattle.soup.specs.Packet.{Packet, accept, sequenced}
 use Rattle.soup.specs.Read.{read}
 use Rattle.soup_pieces.specs.Machine.{Machine, refusal, gives, begins, counted, role_of, judge, empty, eat}
@@ -16,15 +17,15 @@ use Rattle.soup_pieces.proofs.Eats.{gathered}
 -- ---- by their role in the count, for the code
 
 module _ (next : ℕ) (d : List ℕ) (p : Packet) (e : read d ≡ taken p) where
-  pub early : role_of p ≡ counted → next ≡ 0 → judge next d ≡ refused 16
+  pub early : role_of p ≡ counted → next ≡ 0 → judge next d ≡ refused NotForRecord
   unfolding judge
   early r z = rw (e, r, z)
 
-  pub past-last : role_of p ≡ counted → next ≡ 2 ^ 64 - 1 → judge next d ≡ refused 7
+  pub past-last : role_of p ≡ counted → next ≡ 2 ^ 64 - 1 → judge next d ≡ refused Bound
   unfolding judge
   past-last r z = rw (e, r, z)
 
-  pub second : (number : ℕ) → role_of p ≡ begins number → (next ≡ 0 → ⊥) → judge next d ≡ refused 16
+  pub second : (number : ℕ) → role_of p ≡ begins number → (next ≡ 0 → ⊥) → judge next d ≡ refused NotForRecord
   unfolding judge
   second number r n = rw (e, r, ne_eqb next 0 n)
 

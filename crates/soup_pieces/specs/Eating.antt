@@ -3,6 +3,7 @@
 use Rattle.std.specs.Prelude.{ℕ, ◌-◌, ◌≡◌, List, [], ◌∷◌, Bool, ◌&&◌, length, take, drop, if◌then◌else◌}
 use Rattle.wire.specs.Checks.{◌is◌, ◌at_most◌, Verdict, refused, taken, Check, ◌else◌, checked, ◌into◌}
 use Rattle.wire.specs.Reply.{left_of}
+use Rattle.wire.specs.declared.refusal.Refusal.TheVariants.{Framing, Broken}
 use Rattle.soup.specs.Packet.{line_limit}
 use Rattle.soup.specs.Read.{unbroken}
 use Rattle.soup.specs.Reading.{packet_of}
@@ -29,8 +30,8 @@ ready pieces buffer =
 
 abbrev pub call_checks : Pieces → (buffer piece : List ℕ) → (place : ℕ) → List Check
 call_checks pieces buffer piece place =
-    (ready pieces buffer else 10)
-    ∷ (place at_most length piece else 4)
+    (ready pieces buffer else Broken)
+    ∷ (place at_most length piece else Framing)
     ∷ []
 
 unfoldable pub eating : Pieces → (buffer piece : List ℕ) → (place : ℕ) → Verdict First

@@ -2,6 +2,7 @@
 -- Assumes nothing.
 use Rattle.std.specs.Prelude.{ℕ, suc, ◌-◌, ◌^◌, List, [], ◌∷◌, ◌++◌, Bool, true, false, not, length, if◌then◌else◌}
 use Rattle.wire.specs.Checks.{◌is◌, ◌at_most◌, Verdict, refused, taken, Check, ◌else◌, checked, ◌into◌}
+use Rattle.wire.specs.declared.refusal.Refusal.TheVariants.{Bound, NotForRecord}
 use Rattle.soup.specs.Packet.{Packet, debug, accept, reject, sequenced, server_heartbeat, end_of_session, login, unsequenced}
 use Rattle.soup.specs.Packet.{client_heartbeat}
 use Rattle.soup.specs.Packet.{logout, line_limit}
@@ -52,8 +53,8 @@ role_of logout = neither
 
 -- an S before Login Accepted, or a second A, is 16; an S whose number would be 2^64-1 is 7; `Turns` shows it of the machine
 abbrev pub turn_checks : (next : ℕ) → Role → List Check
-turn_checks next (begins number) = (next is 0 else 16) ∷ []
-turn_checks next counted = (not (next is 0) else 16) ∷ (next at_most 2 ^ 64 - 2 else 7) ∷ []
+turn_checks next (begins number) = (next is 0 else NotForRecord) ∷ []
+turn_checks next counted = (not (next is 0) else NotForRecord) ∷ (next at_most 2 ^ 64 - 2 else Bound) ∷ []
 turn_checks next neither = []
 
 -- the number of a packet

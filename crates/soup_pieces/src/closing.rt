@@ -6,7 +6,7 @@ use crate::{Pieces, Taken};
 use soup::reading;
 use soup::reading::Reading;
 use wire::kinds::Sequence;
-use wire::refusal;
+use wire::refusal::Refusal;
 
 // One past the highest number that a message can have.
 const PAST_LAST: u64 = 18446744073709551615;
@@ -49,10 +49,10 @@ fn sequenced_fault(next: u64) -> u8
     ensures { result ≡ sequenced_fault next }
 {
     if next == 0 {
-        return refusal::NOT_FOR_RECORD;
+        return Refusal::NotForRecord;
     }
     if next == PAST_LAST {
-        return refusal::BOUND;
+        return Refusal::Bound;
     }
     0
 }
@@ -84,7 +84,7 @@ pub(crate) fn close(line: &[u8], next: Sequence, place: usize) -> Taken
         Reading::Refused(why) => unfit(why, bytes, next.0, place),
         Reading::Accept { session: _, number } => {
             if next.0 != 0 {
-                return unfit(refusal::NOT_FOR_RECORD, bytes, next.0, place);
+                return unfit(Refusal::NotForRecord, bytes, next.0, place);
             }
             unnumbered(said, bytes, number.0, place)
         }

@@ -25,7 +25,8 @@ use crate::searching::linefeed;
 use crate::{Pieces, Taken};
 use soup::line;
 use wire::kinds::Sequence;
-use wire::{output, refusal};
+use wire::refusal::Refusal;
+use wire::output;
 
 fn smaller(a: usize, b: usize) -> usize
     ensures { result ≡ min a b }
@@ -67,7 +68,7 @@ pub(crate) fn gather(
         };
     }
     Taken::Unfit {
-        why: refusal::OVERLONG,
+        why: Refusal::Overlong,
         bytes: line::LONGEST,
         place: to,
         after: empty(true, next.0),

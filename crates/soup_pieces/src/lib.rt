@@ -13,7 +13,7 @@ use crate::readiness::is_ready;
 use crate::searching::linefeed;
 use soup::reading::Reading;
 use wire::kinds::Sequence;
-use wire::refusal;
+use wire::refusal::Refusal;
 
 // What is handed from call to call, with the buffer.
 #[derive(Clone, Copy)]
@@ -30,7 +30,7 @@ pub struct Pieces {
 #[derive(Clone, Copy)]
 pub enum Taken {
     // The call itself is refused, and nothing has changed.
-    Refused(u8),
+    Refused(Refusal),
     // The piece is used up, and no packet ended.
     UsedUp {
         after: Pieces,
@@ -57,10 +57,10 @@ pub fn take(pieces: Pieces, buffer: &mut [u8], piece: &[u8], place: usize) -> Ta
         buffer.new }
 {
     if !is_ready(pieces, buffer) {
-        return Taken::Refused(refusal::BROKEN);
+        return Taken::Refused(Refusal::Broken);
     }
     if piece.len() < place {
-        return Taken::Refused(refusal::FRAMING);
+        return Taken::Refused(Refusal::Framing);
     }
     let mut from = place;
     if pieces.dropping {

@@ -13,6 +13,7 @@ use lib.ListN.{length}
 use borrow.Author.Tests.{ne_eqb, eqb-true, eqb-false}
 use Rattle.wire.specs.Checks.{Verdict, refused, taken, checked}
 use Rattle.wire.specs.Reply.{within, settle}
+use Rattle.wire.specs.declared.refusal.Refusal.TheVariants.{Overlong, Linefeed}
 use Rattle.soup.specs.Packet.{Packet, debug, accept, reject, sequenced, server_heartbeat, end_of_session, login, unsequenced}
 use Rattle.soup.specs.Packet.{client_heartbeat}
 use Rattle.soup.specs.Packet.{logout, line, carries}
@@ -56,16 +57,16 @@ taken-by (taken p) r packet room e k = refl
 -- ---- a payload under its type byte
 
 module _ (kind : ℕ) (s : List ℕ) (room : ℕ) where
-  pub too_long : 4096 < length s → sent (line kind s) room ≡ refused 2
+  pub too_long : 4096 < length s → sent (line kind s) room ≡ refused Overlong
   too_long h = rw (overlong (line kind s) (omega (arith, length-line kind s)))
 
   -- any other payload is judged by its bytes alone
   abbrev Decided : Type 0
-  Decided = sent (line kind s) room ≡ (if unbroken s then within room (line kind s) else refused 8)
+  Decided = sent (line kind s) room ≡ (if unbroken s then within room (line kind s) else refused Linefeed)
 
   judged : (p : Packet) → (kind ≡ 10 → ⊥)
       → settle (checked (line_checks (line kind s)) (taken p)) (line kind s) room
-      ≡ (if unbroken s then within room (line kind s) else refused 8)
+      ≡ (if unbroken s then within room (line kind s) else refused Linefeed)
   unfolding unbroken
   judged p k =
       by-test (unbroken s)

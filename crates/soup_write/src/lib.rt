@@ -11,26 +11,26 @@ ghost use Rattle.soup_write.specs.Writing.{sent, reply};
 
 use soup::{line, reading};
 use wire::kinds::{Name, Password, Sequence, User};
-use wire::output::Written;
-use wire::{output, refusal};
+use wire::refusal::Refusal;
+use wire::output;
 
 // A packet that is laid out already: the reader is asked.
-fn write_packet(packet: &[u8], out: &mut [u8]) -> Written
+fn write_packet(packet: &[u8], out: &mut [u8]) -> Result<usize, Refusal>
     ensures { Settled (sent packet.now (length out.old)) out.old result out.new }
 {
     let said = reading::read(packet);
     if let reading::Reading::Refused(n) = said {
-        return Written::Refused(n);
+        return Err(n);
     }
     if out.len() < packet.len() {
-        return Written::Refused(refusal::ROOM);
+        return Err(Refusal::Room);
     }
     output::copy(out, 0, packet, 0, packet.len());
-    Written::Bytes(packet.len())
+    Ok(packet.len())
 }
 
 // A packet that holds nothing.
-fn write_bare(kind: u8, out: &mut [u8]) -> Written
+fn write_bare(kind: u8, out: &mut [u8]) -> Result<usize, Refusal>
     ensures { Settled (sent (line kind []) (length out.old)) out.old result out.new }
 {
     let packet = [kind, b'\n'];
@@ -38,34 +38,34 @@ fn write_bare(kind: u8, out: &mut [u8]) -> Written
 }
 
 // A payload, which is looked at where it lies and copied once.
-fn write_payload(kind: u8, payload: &[u8], out: &mut [u8]) -> Written
+fn write_payload(kind: u8, payload: &[u8], out: &mut [u8]) -> Result<usize, Refusal>
     requires { carries kind ≡ true }
     ensures { Settled (sent (line kind payload.now) (length out.old)) out.old result
         out.new }
 {
     let length = payload.len();
     if line::LONGEST_PAYLOAD < length {
-        return Written::Refused(refusal::OVERLONG);
+        return Err(Refusal::Overlong);
     }
     if !line::is_unbroken(payload) {
-        return Written::Refused(refusal::LINEFEED);
+        return Err(Refusal::Linefeed);
     }
     if out.len() < length + 2 {
-        return Written::Refused(refusal::ROOM);
+        return Err(Refusal::Room);
     }
     out[0] = kind;
     output::copy(out, 1, payload, 0, length);
     out[length + 1] = b'\n';
-    Written::Bytes(length + 2)
+    Ok(length + 2)
 }
 
-pub fn write_debug(text: &[u8], out: &mut [u8]) -> Written
+pub fn write_debug(text: &[u8], out: &mut [u8]) -> Result<usize, Refusal>
     ensures { Settled (reply (debug text.now) (length out.old)) out.old result out.new }
 {
     write_payload(b'+', text, out)
 }
 
-pub fn write_accept(session: Name, number: Sequence, out: &mut [u8]) -> Written
+pub fn write_accept(session: Name, number: Sequence, out: &mut [u8]) -> Result<usize, Refusal>
     ensures { Settled (reply (accept (name_bytes session) number.0) (length out.old)) out.old result
         out.new }
 {
@@ -78,27 +78,27 @@ pub fn write_accept(session: Name, number: Sequence, out: &mut [u8]) -> Written
     write_packet(&packet, out)
 }
 
-pub fn write_reject(reason: u8, out: &mut [u8]) -> Written
+pub fn write_reject(reason: u8, out: &mut [u8]) -> Result<usize, Refusal>
     ensures { Settled (reply (reject reason) (length out.old)) out.old result out.new }
 {
     let packet = [b'J', reason, b'\n'];
     write_packet(&packet, out)
 }
 
-pub fn write_sequenced(message: &[u8], out: &mut [u8]) -> Written
+pub fn write_sequenced(message: &[u8], out: &mut [u8]) -> Result<usize, Refusal>
     ensures { Settled (reply (sequenced message.now) (length out.old)) out.old result
         out.new }
 {
     write_payload(b'S', message, out)
 }
 
-pub fn write_server_heartbeat(out: &mut [u8]) -> Written
+pub fn write_server_heartbeat(out: &mut [u8]) -> Result<usize, Refusal>
     ensures { Settled (reply server_heartbeat (length out.old)) out.old result out.new }
 {
     write_bare(b'H', out)
 }
 
-pub fn write_end_of_session(out: &mut [u8]) -> Written
+pub fn write_end_of_session(out: &mut [u8]) -> Result<usize, Refusal>
     ensures { Settled (reply end_of_session (length out.old)) out.old result out.new }
 {
     write_bare(b'Z', out)
@@ -110,7 +110,7 @@ pub fn write_login(
     session: Name,
     number: Sequence,
     out: &mut [u8],
-) -> Written
+) -> Result<usize, Refusal>
     ensures { Settled (reply (login (user_bytes user) (name_bytes password.0) (name_bytes session) number.0)
         (length out.old)) out.old result out.new }
 {
@@ -125,20 +125,20 @@ pub fn write_login(
     write_packet(&packet, out)
 }
 
-pub fn write_unsequenced(message: &[u8], out: &mut [u8]) -> Written
+pub fn write_unsequenced(message: &[u8], out: &mut [u8]) -> Result<usize, Refusal>
     ensures { Settled (reply (unsequenced message.now) (length out.old)) out.old result
         out.new }
 {
     write_payload(b'U', message, out)
 }
 
-pub fn write_client_heartbeat(out: &mut [u8]) -> Written
+pub fn write_client_heartbeat(out: &mut [u8]) -> Result<usize, Refusal>
     ensures { Settled (reply client_heartbeat (length out.old)) out.old result out.new }
 {
     write_bare(b'R', out)
 }
 
-pub fn write_logout(out: &mut [u8]) -> Written
+pub fn write_logout(out: &mut [u8]) -> Result<usize, Refusal>
     ensures { Settled (reply logout (length out.old)) out.old result out.new }
 {
     write_bare(b'O', out)

@@ -7,6 +7,7 @@ use mathlib.Core.Bool.{true, false, ◌&&◌}
 use lib.ListN.{length}
 use Rattle.wire.specs.Checks.{Verdict, refused, taken, ◌into◌}
 use Rattle.wire.specs.Fields.{Bytes}
+use Rattle.wire.specs.declared.refusal.Refusal.TheVariants.{Broken}
 use Rattle.wire.proofs.Tests.{by-test, both}
 use Rattle.held.specs.Hanging.{in_place, sound}
 use Rattle.held.specs.Holding.{Holding}
@@ -28,12 +29,12 @@ module _ (r : Record) (area d out : List ℕ) where
   said = taking r area d (length out)
 
   -- what is not held hangs together or not, and then what is held
-  pub answers-broken : well_kept r ≡ false → Answered said area out (takes.Refused 10) area out
+  pub answers-broken : well_kept r ≡ false → Answered said area out (takes.Refused Broken) area out
   unfolding taking hangs
   answers-broken h = refuses said area out 10 (rw h)
 
   pub answers-unwhole : in_place r.held r.next.0 r.top.0 && sound r.held area ≡ false
-      → Answered said area out (takes.Refused 10) area out
+      → Answered said area out (takes.Refused Broken) area out
   unfolding taking hangs
   answers-unwhole e =
       refuses said area out 10

@@ -10,6 +10,7 @@ use lib.ListN.{length, replicate, length-append}
 use lib.Seq.{drop-append-add}
 use Rattle.wire.specs.Checks.{refused, taken}
 use Rattle.wire.specs.Fields.{Bytes}
+use Rattle.wire.specs.declared.refusal.Refusal.TheVariants.{Room}
 use Rattle.blocks.specs.Blocks.{frame, frames, stated}
 use Rattle.blocks.proofs.Frames.{length-frame, length-one, frames-append, front-stated, front-first}
 use Rattle.memx.specs.Packet as memx
@@ -100,11 +101,11 @@ module _ (m : List ℕ) (full : length m ≡ 1470) where
         takes kept brimful packet room (messages 1 (long ∷ [])) kept-hangs (brimful-sound (2 ^ 32 - 3)) as-reported refl (rw needs l)
 
     -- with less it is refused,
-    pub lacks-room : (room : ℕ) → room < 54584 → taking kept brimful packet room ≡ refused 9
+    pub lacks-room : (room : ℕ) → room < 54584 → taking kept brimful packet room ≡ refused Room
     lacks-room room l =
         then-by-these-checks kept brimful packet room (messages 1 (long ∷ [])) as-reported
         ∙ rw (kept-hangs, brimful-sound (2 ^ 32 - 3), needs, lt-leb 54584 room l)
 
     -- so with UFO's room.
-    pub ufo-room-too-little : taking kept brimful packet ufo_room ≡ refused 9
+    pub ufo-room-too-little : taking kept brimful packet ufo_room ≡ refused Room
     ufo-room-too-little = lacks-room ufo_room (omega arith)

@@ -12,6 +12,7 @@ use Rattle.wire.specs.Fields.{be, bytes_of}
 use Rattle.wire.specs.Checks.{◌is◌, Verdict, taken, ◌else◌, ◌into◌}
 use Rattle.wire.proofs.Checks.{all-passed, taken-same}
 use Rattle.wire.specs.declared.kinds.SessionId.{SessionId}
+use Rattle.wire.specs.declared.refusal.Refusal.TheVariants.{OtherSession}
 use Rattle.blocks.specs.Blocks.{frames, cut}
 use Rattle.memx.specs.Packet.{Packet, heartbeat, shutdown}
 use Rattle.memx.specs.Read as memx
@@ -40,7 +41,7 @@ reported-so : (s : Session) (own : SessionId) (d : List ℕ) (p : Packet) (sessi
     → said ≡ report
 unfolding report_of
 reported-so s own d p session said report m f g h =
-    taken-same said report (all-passed ((session is own.0 else 11) ∷ []) (taken said) report (rw (m, f, g) at h)).1
+    taken-same said report (all-passed ((session is own.0 else OtherSession) ∷ []) (taken said) report (rw (m, f, g) at h)).1
 
 -- an end that does not contradict the record is not below T
 no-clash : (a b : Bool) → a || true && not b ≡ false → b ≡ true

@@ -11,7 +11,7 @@ use Rattle.wire.specs.Checks.{◌at_most◌, Verdict, refused, taken, Check, ◌
 use Rattle.wire.proofs.Checks.{all-passed, taken-same}
 use Rattle.wire.specs.Reply.{within}
 use Rattle.wire.specs.Reply as Reply
-use Rattle.wire.specs.declared.output.Written.TheVariants.{Refused, Bytes}
+use Rattle.wire.specs.declared.refusal.Refusal.TheVariants.{Room, Broken}
 use Rattle.wire.proofs.Settling.{stored, stored_at, refuses, lacks-room, has_room}
 use Rattle.wire.proofs.Tests.{impossible}
 use Rattle.blocks.specs.Blocks.{frames, place_after, place_of}
@@ -46,7 +46,7 @@ let-fits held area m at out messages bytes left g = by (releasing held area m at
       → (at + bytes ≤ length out) × (length left ≡ length out)
   by (refused x) w g = impossible (cc g.answer)
   by (taken ms) w g =
-      let cs : List Check = (sound held area else 10) ∷ (at + length (frames (released held area m)) at_most length out else 9) ∷ [] in
+      let cs : List Check = (sound held area else Broken) ∷ (at + length (frames (released held area m)) at_most length out else Room) ∷ [] in
       let c = all-passed cs (taken (released held area m)) ms w in
       let same : released held area m ≡ ms = taken-same (released held area m) ms c.1 in
       let z : bytes ≡ length (frames ms) = cc g.answer in
@@ -95,18 +95,18 @@ module _ (k : ℕ) (s : List ℕ) (p held : ℕ) (area : List ℕ) (m : ℕ) (ou
 -- and where nothing is held
 module _ (k : ℕ) (s : List ℕ) (p : ℕ) (out : List ℕ) where
   pub own-none : (n : ℕ) → place_of (place_after k s p) ≡ place.Refused n
-      → Reply.Settled (handed_own k s p (length out)) out (Refused n) out
+      → Reply.Settled (handed_own k s p (length out)) out (refused n) out
   own-none n e = refuses (handed_own k s p (length out)) out n (rw (not-reached (place_after k s p) n e))
 
   module _ (q : ℕ) (e : place_after k s p ≡ taken q) where
     from-there-own : handed_own k s p (length out) ≡ within (length out) (drop q s)
     from-there-own = rw e
 
-    pub own_back : length out < length s - q → Reply.Settled (handed_own k s p (length out)) out (Refused 9) out
+    pub own_back : length out < length s - q → Reply.Settled (handed_own k s p (length out)) out (refused Room) out
     own_back h = lacks-room _ (drop q s) out from-there-own (rw length-drop h)
 
     pub own-over : (left : List ℕ) → length s - q ≤ length out → left ≡ sets out 0 (take (length s - q) (drop q s))
-        → Reply.Settled (handed_own k s p (length out)) out (Bytes (length s - q)) left
+        → Reply.Settled (handed_own k s p (length out)) out (taken (length s - q)) left
     own-over left h f =
         let l : length (drop q s) ≡ length s - q = length-drop q s in
         let all : take (length s - q) (drop q s) ≡ drop q s = take_all (length s - q) (drop q s) (omega arith) in

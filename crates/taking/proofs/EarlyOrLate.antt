@@ -11,6 +11,7 @@ use lib.Dec.{leb}
 use lib.ListN.{length, drop, length-append}
 use lib.Seq.{drop-nil}
 use Rattle.wire.specs.Checks.{taken, ◌else◌, checked}
+use Rattle.wire.specs.declared.refusal.Refusal.TheVariants.{Contradiction}
 use Rattle.wire.proofs.Tests.{by-test}
 use Rattle.blocks.specs.Blocks.{frames}
 use Rattle.held.specs.Slots.{freed_from}
@@ -99,7 +100,7 @@ module _ (r : Record) (area : List ℕ) (report : Report) (h : hangs r ≡ true)
 -- an early one is held
 pub reports-early : (r : Record) (area : List ℕ) (room first : ℕ) (ms : List (List ℕ)) → hangs r ≡ true → r.next.0 < first
     → (let h = hold_all r.next.0 (record { held = r.held; area = area }) first ms in
-    reporting r area room (messages first ms) ≡ checked ((not (clash r (first + length ms - 1) false) else 12) ∷ [])
+    reporting r area room (messages first ms) ≡ checked ((not (clash r (first + length ms - 1) false) else Contradiction) ∷ [])
     (taken (record { delivered = []; after = told r r.next.0 h.held (first + length ms - 1) false; area = h.area })))
 unfolding reporting frames freed_from
 reports-early r area room first ms h l =

@@ -13,8 +13,7 @@ use lib.ListN.{length, drop, length-drop, length-append}
 use Rattle.wire.specs.Checks.{◌at_most◌, ◌else◌, Verdict, refused, taken, checked, ◌into◌}
 use Rattle.wire.specs.Fields.{Bytes}
 use Rattle.wire.specs.Reply.{within, Settled}
-use Rattle.wire.specs.declared.output.Written.{Written}
-use Rattle.wire.specs.declared.output.Written.TheVariants as written
+use Rattle.wire.specs.declared.refusal.Refusal.TheVariants.{Room, Contradiction}
 use Rattle.wire.proofs.Tests.{by-test, impossible}
 use Rattle.wire.proofs.Checks.{into-checked}
 use Rattle.blocks.specs.Blocks.{frames, whole, cut}
@@ -43,10 +42,10 @@ use Rattle.taking.proofs.EarlyOrLate.{among, late, none-held, reports-none, leav
 
 -- where room alone decides: 9, or what there is room for
 data ByRoom {A : Type 0} (a : A) : Verdict A → Type 0 where
-  lacks : ByRoom a (refused 9)
+  lacks : ByRoom a (refused Room)
   has : ByRoom a (taken a)
 
-by-room : {A : Type 0} (enough : Bool) (a : A) → ByRoom a (if enough then taken a else refused 9)
+by-room : {A : Type 0} (enough : Bool) (a : A) → ByRoom a (if enough then taken a else refused Room)
 by-room true a = has
 by-room false a = lacks
 
@@ -59,7 +58,7 @@ module _ (d : List ℕ) (b : Bytes d) (p first count : ℕ) (f : Fills d p first
   pub hands-others : (k held : ℕ) (area : List ℕ) (m room : ℕ) → k ≤ count → sound held area ≡ true
       → (let ms = drop k (blocks_from d p count) in
       let more = released held area m in
-      handed k d p held area m room ≡ checked ((length (frames (ms ++ more)) at_most room else 9) ∷ [])
+      handed k d p held area m room ≡ checked ((length (frames (ms ++ more)) at_most room else Room) ∷ [])
       (taken (record { own = frames ms; released = more })))
   hands-others k held area m room h s =
       let all = blocks_from d p count in
@@ -96,7 +95,7 @@ module _ (r : Record) (area out d : List ℕ) (p first count : ℕ) (f : Fills d
       (leaves r area (first + count - 1) false out a e)
 
   -- the packet contradicts
-  pub tells-clash : clash r (first + count - 1) false ≡ true → Answered said area out (takes.Refused 12) area out
+  pub tells-clash : clash r (first + count - 1) false ≡ true → Answered said area out (takes.Refused Contradiction) area out
   unfolding reporting
   tells-clash c = rw (many, c) (record { answer = refl; bytes = refl; slots = refl })
 
@@ -115,7 +114,7 @@ module _ (r : Record) (area out d : List ℕ) (p first count : ℕ) (f : Fills d
 
   -- the verdict on it
   abbrev pub room : Verdict Given
-  room = checked ((length (frames (others ++ more)) at_most length out else 9) ∷ []) (taken given)
+  room = checked ((length (frames (others ++ more)) at_most length out else Room) ∷ []) (taken given)
 
   -- N is past them all, the slots of those that were released are free, and T is the last of the packet's own at least
   abbrev reached : ℕ → Record
@@ -143,7 +142,7 @@ module _ (r : Record) (area out d : List ℕ) (p first count : ℕ) (f : Fills d
         rw q at (freed-add k (length more) r.held r.next.0) in
         let s : r.next.0 + (k + length more) ≡ first + count + length more = omega arith in
         rw (d, n, q, none-held r.next.0 first ms a, many, c, j, e, s)
-        (sym (into-checked ((length (frames (others ++ more)) at_most length out else 9) ∷ []) (taken given)
+        (sym (into-checked ((length (frames (others ++ more)) at_most length out else Room) ∷ []) (taken given)
         (λ (g : Given). taken (done g))))
 
     pub tells : (x : Released) (left : List ℕ) → Handed room out x left → Answered said area out (answer_by x) area left
@@ -179,11 +178,11 @@ module _ (r : Record) (area out d : List ℕ) (p first count : ℕ) (f : Fills d
           (λ e. rw (e, append-nil others, add-zero (first + count)) refl)
           (λ e. rw e refl))
 
-      abbrev answer_by_own : Written → Taken
-      answer_by_own (written.Refused n) = takes.Refused n
-      answer_by_own (written.Bytes n) = takes.Took n (first + count - r.next.0) past
+      abbrev answer_by_own : Verdict ℕ → Taken
+      answer_by_own (refused n) = takes.Refused n
+      answer_by_own (taken n) = takes.Took n (first + count - r.next.0) past
 
-      pub tells-own : (x : Written) (left : List ℕ) → Settled (within (length out) (frames others)) out x left
+      pub tells-own : (x : Verdict ℕ) (left : List ℕ) → Settled (within (length out) (frames others)) out x left
           → Answered said area out (answer_by_own x) area left
       tells-own x left h =
           let enough = length (frames others) at_most length out in

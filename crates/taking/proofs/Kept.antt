@@ -13,6 +13,7 @@ use Rattle.names.specs.Names.{name_bytes}
 use Rattle.text.specs.Text.{blank, text_then_spaces}
 use Rattle.wire.specs.declared.kinds.Name.{Name}
 use Rattle.wire.specs.declared.kinds.SessionId.{SessionId}
+use Rattle.wire.specs.declared.refusal.Refusal.TheVariants.{Form, Absent}
 use Rattle.wire.proofs.Checks.{all-passed}
 use Rattle.held.specs.Slots.{freed_from}
 use Rattle.held.specs.Hanging.{in_place, sound}
@@ -47,7 +48,7 @@ fresh-hangs s l =
 -- Whatever is opened hangs together.
 pub opened-hangs : (name : Name) (r : Record) → opening name ≡ taken r → hangs r ≡ true
 opened-hangs name r e =
-    let checks = (text_then_spaces (name_bytes name) else 5) ∷ (not (blank (name_bytes name)) else 6) ∷ [] in
+    let checks = (text_then_spaces (name_bytes name) else Form) ∷ (not (blank (name_bytes name)) else Absent) ∷ [] in
     let p = all-passed checks (taken (fresh (Ufo name))) r e in
     let same : fresh (Ufo name) ≡ r = cc p.1 in
     rw (← same) (fresh-hangs (Ufo name) (rw (p.0.0, p.0.1.0)))

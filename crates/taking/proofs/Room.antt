@@ -10,6 +10,7 @@ use lib.ListN.{length, length-append, length-drop}
 use Rattle.wire.specs.Checks.{◌is◌, refused, taken, ◌else◌}
 use Rattle.wire.specs.Datagram as ufo
 use Rattle.wire.specs.Fields.{Bytes}
+use Rattle.wire.specs.declared.refusal.Refusal.TheVariants.{OtherSession, NotForRecord}
 use Rattle.wire.proofs.Checks.{all-passed, not-both, taken-same, went}
 use Rattle.wire.proofs.Tests.{by-test}
 use Rattle.blocks.specs.Blocks.{frames}
@@ -57,8 +58,8 @@ own-within most next (end total) w = omega (arith, frames-none)
 
 module _ (d : List ℕ) (b : Bytes d) where
   within-ufo : (p : down.Packet) (report : Report) → down.read d ≡ taken p → of_ufo p ≡ taken report → Within ufo.limit report
-  within-ufo (down.accept session next) report e f = not-both (refused 16) 16 report refl f
-  within-ufo (down.reject reason) report e f = not-both (refused 16) 16 report refl f
+  within-ufo (down.accept session next) report e f = not-both (refused NotForRecord) 16 report refl f
+  within-ufo (down.reject reason) report e f = not-both (refused NotForRecord) 16 report refl f
   within-ufo (down.messages first ms) report e f =
       let size = (carries d first ms e).size in
       rw (← taken-same (messages first ms) report f, ← carried d first ms b e, length-drop) (omega arith)
@@ -66,13 +67,13 @@ module _ (d : List ℕ) (b : Bytes d) where
 
   within-memx : (own : ℕ) (p : memx.Packet) (report : Report) → read d ≡ taken p → of_memx own p ≡ taken report → Within memx.limit report
   within-memx own (memx.heartbeat session highest extra) report e f =
-      rw (← taken-same (news highest) report (all-passed ((session is own else 11) ∷ []) (taken (news highest)) report f).1) tt
+      rw (← taken-same (news highest) report (all-passed ((session is own else OtherSession) ∷ []) (taken (news highest)) report f).1) tt
   within-memx own (memx.shutdown session highest extra) report e f =
-      rw (← taken-same (end highest) report (all-passed ((session is own else 11) ∷ []) (taken (end highest)) report f).1) tt
+      rw (← taken-same (end highest) report (all-passed ((session is own else OtherSession) ∷ []) (taken (end highest)) report f).1) tt
   within-memx own (memx.messages session first extra ms) report e f =
       let size = (took d (memx.messages session first extra ms) e).size in
       rw (
-        ← taken-same (messages first ms) report (all-passed ((session is own else 11) ∷ []) (taken (messages first ms)) report f).1,
+        ← taken-same (messages first ms) report (all-passed ((session is own else OtherSession) ∷ []) (taken (messages first ms)) report f).1,
         ← carried-frames d session first extra ms e b,
         length-drop,
       ) (omega arith)

@@ -22,6 +22,7 @@ use Rattle.record.specs.declared.Record.{Record}
 use Rattle.taking.specs.declared.Taken.{Taken}
 use Rattle.taking.specs.declared.Taken.TheVariants as takes
 use Rattle.taking.proofs.EarlyOrLate.{reports-early}
+use Rattle.wire.specs.declared.refusal.Refusal.TheVariants.{Contradiction}
 
 -- of n blocks that fill a datagram from p on, the first, and those behind it
 pub record Tried (d : List ℕ) (next : ℕ) (h : Holding) (number p n : ℕ) : Type 0 where
@@ -67,7 +68,7 @@ module _ (r : Record) (area d : List ℕ) (p from count : ℕ) (f : Fills d p fr
   many = counted d p from count f
 
   -- the packet contradicts
-  pub early-clash : clash r (from + count - 1) false ≡ true → TakesMessages r from count area d p [] (takes.Refused 12) area []
+  pub early-clash : clash r (from + count - 1) false ≡ true → TakesMessages r from count area d p [] (takes.Refused Contradiction) area []
   early-clash c = rw (reports-early r area 0 from ms h a, many, c) (record { answer = refl; bytes = refl; slots = refl })
 
   -- or its messages are held

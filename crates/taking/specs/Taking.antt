@@ -3,6 +3,7 @@
 use Rattle.std.specs.Prelude.{ℕ, ◌+◌, ◌-◌, max, ◌≡◌, List, [], ◌∷◌, ◌++◌, Bool, not, ◌&&◌, ◌||◌, length, drop, if◌then◌else◌}
 use Rattle.wire.specs.Checks.{◌at_most◌, Verdict, refused, taken, Check, ◌else◌, checked, ◌into◌}
 use Rattle.wire.specs.Reply.{Reply, left_of}
+use Rattle.wire.specs.declared.refusal.Refusal.TheVariants.{Room, Broken, Contradiction}
 use Rattle.blocks.specs.Blocks.{frames}
 use Rattle.held.specs.Slots.{freed_from}
 use Rattle.held.specs.Hanging.{sound}
@@ -80,8 +81,8 @@ outcome r area report = record {
 
 abbrev pub report_checks : Record → List ℕ → ℕ → Report → List Check
 report_checks r area room report =
-    (not (contradicts r report) else 12)
-    ∷ (length (frames (delivered r area report)) at_most room else 9)
+    (not (contradicts r report) else Contradiction)
+    ∷ (length (frames (delivered r area report)) at_most room else Room)
     ∷ []
 
 unfoldable pub reporting : Record → List ℕ → ℕ → Report → Verdict Taking
@@ -89,7 +90,7 @@ reporting r area room report = checked (report_checks r area room report) (taken
 
 -- a record and an area that don't hang together
 abbrev pub broken : Record → List ℕ → List Check
-broken r area = (hangs r else 10) ∷ (sound r.held area else 10) ∷ []
+broken r area = (hangs r else Broken) ∷ (sound r.held area else Broken) ∷ []
 
 -- the order of refusals: 10; the reader's; 16; 11; 12; 9: Order; Kept.taking-hangs, taking-sound: what is left hangs together
 unfoldable pub taking : Record → List ℕ → List ℕ → ℕ → Verdict Taking

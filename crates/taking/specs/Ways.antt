@@ -2,6 +2,7 @@
 -- Assumes nothing.
 use Rattle.std.specs.Prelude.{ℕ, List, [], ◌∷◌, Bool, not, length}
 use Rattle.wire.specs.Checks.{Verdict, taken, ◌else◌, checked}
+use Rattle.wire.specs.declared.refusal.Refusal.TheVariants.{Contradiction}
 use Rattle.record.specs.declared.Record.{Record}
 use Rattle.reports.specs.Reports.{messages, blocks_from}
 use Rattle.taking.specs.declared.Taken.{Taken}
@@ -11,7 +12,7 @@ use Rattle.taking.specs.Taking.{clash, told, Taking, reporting, Answered}
 unfoldable pub passing : Record → List ℕ → ℕ → Bool → Verdict Taking
 passing r area top final =
     checked
-    ((not (clash r top final) else 12) ∷ [])
+    ((not (clash r top final) else Contradiction) ∷ [])
     (taken (record { delivered = []; after = told r r.next.0 r.held top final; area = area }))
 
 -- the answer r to the count messages from number first on whose blocks stand in the datagram from a place on, and what is left of the area

@@ -5,24 +5,24 @@ ghost use Rattle.taking.specs.Delivering.{handed_own, handed, Handed};
 
 use blocks::Place;
 use held::releasing::{Released, release};
-use wire::output::Written;
-use wire::{output, refusal};
+use wire::refusal::Refusal;
+use wire::output;
 
 // Where nothing is held.
-pub(crate) fn deliver_own(datagram: &[u8], place: usize, k: u64, out: &mut [u8]) -> Written
+pub(crate) fn deliver_own(datagram: &[u8], place: usize, k: u64, out: &mut [u8]) -> Result<usize, Refusal>
     ensures { Settled (handed_own k datagram.now place (length out.old))
         out.old result out.new }
 {
     let start = blocks::skip(datagram, place, k);
     match start {
-        Place::Refused(number) => Written::Refused(number),
+        Place::Refused(number) => Err(number),
         Place::At(from) => {
             let bytes = datagram.len() - from;
             if out.len() < bytes {
-                return Written::Refused(refusal::ROOM);
+                return Err(Refusal::Room);
             }
             output::copy(out, 0, datagram, from, bytes);
-            Written::Bytes(bytes)
+            Ok(bytes)
         }
     }
 }

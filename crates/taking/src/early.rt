@@ -10,7 +10,7 @@ use crate::tell::{contradicts, tell};
 use blocks::Block;
 use held::holding::hold;
 use record::Record;
-use wire::refusal;
+use wire::refusal::Refusal;
 
 // Each message is tried at its slot; the bitmap afterwards.
 fn hold_each(
@@ -66,7 +66,7 @@ pub(crate) fn hold_early(
     let next = kept.next;
     let past = first + count as u64;
     if contradicts(kept, past - 1, false) {
-        return Taken::Refused(refusal::CONTRADICTION);
+        return Taken::Refused(Refusal::Contradiction);
     }
     let held = hold_each(kept.held, next.0, first, count, area, datagram, place);
     Taken::Took {

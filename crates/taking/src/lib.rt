@@ -21,12 +21,11 @@ use held::slots::free_from;
 use record::Record;
 use record::hangs::is_well_kept;
 use reports::{Reported, report_of};
-use wire::output::Written;
-use wire::refusal;
+use wire::refusal::Refusal;
 
 #[derive(Clone, Copy)]
 pub enum Taken {
-    Refused(u8),
+    Refused(Refusal),
     Took {
         bytes: usize,
         messages: u32,
@@ -39,7 +38,7 @@ fn pass(kept: Record, top: u64, end: bool) -> Taken
     ensures { result ≡ taken_of (passing kept [] top end) }
 {
     if contradicts(kept, top, end) {
-        return Taken::Refused(refusal::CONTRADICTION);
+        return Taken::Refused(Refusal::Contradiction);
     }
     let next = kept.next;
     Taken::Took {
@@ -67,12 +66,12 @@ fn hand_over_own(
     let next = kept.next;
     let past = first + count as u64;
     if contradicts(kept, past - 1, false) {
-        return Taken::Refused(refusal::CONTRADICTION);
+        return Taken::Refused(Refusal::Contradiction);
     }
     let written = deliver_own(datagram, place, next.0 - first, out);
     match written {
-        Written::Refused(number) => Taken::Refused(number),
-        Written::Bytes(bytes) => {
+        Err(number) => Taken::Refused(number),
+        Ok(bytes) => {
             let messages = (past - next.0) as u32;
             let after = tell(kept, past, 0, past - 1, false);
             Taken::Took {
@@ -102,7 +101,7 @@ fn hand_over(
     let next = kept.next;
     let past = first + count as u64;
     if contradicts(kept, past - 1, false) {
-        return Taken::Refused(refusal::CONTRADICTION);
+        return Taken::Refused(Refusal::Contradiction);
     }
     let held = free_from(kept.held, next.0, past - next.0);
     let given = deliver(datagram, place, next.0 - first, held, past, area, out);
@@ -183,12 +182,12 @@ pub fn take(kept: Record, area: &mut [u8], datagram: &[u8], out: &mut [u8]) -> T
         area.old out.old result area.new out.new }
 {
     if !is_well_kept(kept) {
-        return Taken::Refused(refusal::BROKEN);
+        return Taken::Refused(Refusal::Broken);
     }
     let next = kept.next;
     let top = kept.top;
     if !is_whole(kept.held, next.0, top.0, area) {
-        return Taken::Refused(refusal::BROKEN);
+        return Taken::Refused(Refusal::Broken);
     }
     let session = kept.session;
     let reported = report_of(session, datagram);

@@ -12,31 +12,32 @@ use Rattle.wire.specs.Fields.{bytes_of}
 use Rattle.wire.specs.Checks.{◌is◌, ◌at_most◌, Check, ◌else◌, checked, taken}
 use Rattle.text.specs.Text.{blank, text_then_spaces}
 use Rattle.wire.specs.Datagram.{limit}
+use Rattle.wire.specs.declared.refusal.Refusal.TheVariants.{Overlong, Framing, Form, Absent, Bound}
 use Rattle.wire.proofs.Width.{be-bytes_of, be-last, length-bytes_of}
 use Rattle.blocks.specs.Blocks.{cut, is_whole, messages_of}
 use Rattle.ufo.specs.Down.{accept, reject, messages, end, laid, write, read_a, read_j, read_s, read_e, read}
 
 abbrev pub of_accept : List ℕ → ℕ → List Check
 of_accept session next =
-    (text_then_spaces session else 5)
-    ∷ (not (blank session) else 6)
-    ∷ (not (next is 0) else 6)
-    ∷ (next at_most 2 ^ 32 - 1 else 7)
+    (text_then_spaces session else Form)
+    ∷ (not (blank session) else Absent)
+    ∷ (not (next is 0) else Absent)
+    ∷ (next at_most 2 ^ 32 - 1 else Bound)
     ∷ []
 
 abbrev pub of_reject : ℕ → List Check
-of_reject reason = (reason is 65 || reason is 83 else 5) ∷ []
+of_reject reason = (reason is 65 || reason is 83 else Form) ∷ []
 
 abbrev pub of_messages : ℕ → ℕ → List ℕ → List Check
 of_messages first count blocks =
-    (7 + length blocks at_most limit else 2)
-    ∷ (is_whole (cut count blocks) else 4)
-    ∷ (not (first is 0) else 6)
-    ∷ (first + count at_most 2 ^ 32 - 1 else 7)
+    (7 + length blocks at_most limit else Overlong)
+    ∷ (is_whole (cut count blocks) else Framing)
+    ∷ (not (first is 0) else Absent)
+    ∷ (first + count at_most 2 ^ 32 - 1 else Bound)
     ∷ []
 
 abbrev pub of_end : ℕ → List Check
-of_end total = (total at_most 2 ^ 32 - 2 else 7) ∷ []
+of_end total = (total at_most 2 ^ 32 - 2 else Bound) ∷ []
 
 pub length-laid : (first count : ℕ) (blocks : List ℕ) → length (laid first count blocks) ≡ 7 + length blocks
 length-laid first count blocks = simp (length-append, length-bytes_of) (omega arith)

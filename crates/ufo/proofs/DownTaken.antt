@@ -5,6 +5,7 @@ use mathlib.Core.Path.{◌≡◌, refl}
 use mathlib.Core.List.{List}
 use Rattle.wire.specs.Checks.{refused, taken, Passed}
 use Rattle.wire.specs.Datagram.{opening}
+use Rattle.wire.specs.declared.refusal.Refusal.TheVariants.{UnknownType}
 use Rattle.wire.proofs.Checks.{not-both, all-passed, came-by}
 use Rattle.blocks.specs.Blocks.{messages_of}
 use Rattle.ufo.specs.Down.{Packet, accept, reject, messages, end, session_a, next_a, checks_a, read_a, reason_j, checks_j, read_j, first_s}
@@ -24,5 +25,5 @@ came d p e =
     let by-type = came-by k 65 (checks_a d) _ p _ by-A
     (came-by k 74 (checks_j d) _ p _ by-J
     (came-by k 83 (checks_s d) _ p _ by-S
-    (came-by k 69 (checks_e d) _ p _ by-E (not-both (refused 3) 3 p refl)))) in
+    (came-by k 69 (checks_e d) _ p _ by-E (not-both (refused UnknownType) 3 p refl)))) in
     (c.0, by-type c.1)

@@ -7,6 +7,7 @@ use mathlib.Core.List.{List, ◌∷◌, ◌++◌}
 use mathlib.Core.Bool.{Bool, true, ◌||◌}
 use Rattle.wire.specs.Checks.{◌is◌, taken, Check, ◌else◌, checked, ordered}
 use Rattle.wire.specs.Datagram.{opening}
+use Rattle.wire.specs.declared.refusal.Refusal.TheVariants.{UnknownType}
 use Rattle.wire.proofs.Tests.{by-test}
 use Rattle.blocks.specs.Blocks.{messages_of}
 use Rattle.ufo.specs.Down.{Packet, accept, reject, messages, end, session_a, next_a, checks_a, read_a, reason_j, checks_j, read_j}
@@ -27,7 +28,7 @@ module _ (d : List ℕ) where
 
   -- all that is checked of a packet, in one list
   abbrev pub checks : List Check
-  checks = opening d ++ (known else 3) ∷ of_type
+  checks = opening d ++ (known else UnknownType) ∷ of_type
 
   -- what it says, if none fails
   abbrev pub says : Packet

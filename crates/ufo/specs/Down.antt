@@ -5,6 +5,7 @@ use Rattle.std.specs.Prelude.{if◌then◌else◌}
 use Rattle.wire.specs.Fields.{be, bytes_of, Bytes}
 use Rattle.wire.specs.Checks.{◌is◌, ◌at_most◌, Verdict, refused, taken, Check, ◌else◌, checked}
 use Rattle.wire.specs.Datagram.{limit, opening}
+use Rattle.wire.specs.declared.refusal.Refusal.TheVariants.{UnknownType, Framing, Form, Absent, Bound}
 use Rattle.names.specs.Names.{name_of}
 use Rattle.text.specs.Text.{blank, text_then_spaces}
 use Rattle.blocks.specs.Blocks.{frames, Cut, cut, is_whole, messages_of, Each}
@@ -57,10 +58,10 @@ next_a d = be 4 (drop 11 d)
 
 abbrev pub checks_a : List ℕ → List Check
 checks_a d =
-    (length d is 15 else 4)
-    ∷ (text_then_spaces (session_a d) else 5)
-    ∷ (not (blank (session_a d)) else 6)
-    ∷ (not (next_a d is 0) else 6)
+    (length d is 15 else Framing)
+    ∷ (text_then_spaces (session_a d) else Form)
+    ∷ (not (blank (session_a d)) else Absent)
+    ∷ (not (next_a d is 0) else Absent)
     ∷ []
 
 unfoldable pub read_a : List ℕ → Verdict Packet
@@ -71,7 +72,7 @@ abbrev pub reason_j : List ℕ → ℕ
 reason_j d = get_or d 1 0
 
 abbrev pub checks_j : List ℕ → List Check
-checks_j d = (length d is 2 else 4) ∷ (reason_j d is 65 || reason_j d is 83 else 5) ∷ []
+checks_j d = (length d is 2 else Framing) ∷ (reason_j d is 65 || reason_j d is 83 else Form) ∷ []
 
 unfoldable pub read_j : List ℕ → Verdict Packet
 read_j d = checked (checks_j d) (taken (reject (reason_j d)))
@@ -88,10 +89,10 @@ blocks_s d = cut (count_s d) (drop 7 d)
 
 abbrev pub checks_s : List ℕ → List Check
 checks_s d =
-    (7 at_most length d else 4)
-    ∷ (is_whole (blocks_s d) else 4)
-    ∷ (not (first_s d is 0) else 6)
-    ∷ (first_s d + count_s d at_most 2 ^ 32 - 1 else 7)
+    (7 at_most length d else Framing)
+    ∷ (is_whole (blocks_s d) else Framing)
+    ∷ (not (first_s d is 0) else Absent)
+    ∷ (first_s d + count_s d at_most 2 ^ 32 - 1 else Bound)
     ∷ []
 
 unfoldable pub read_s : List ℕ → Verdict Packet
@@ -102,7 +103,7 @@ abbrev pub total_e : List ℕ → ℕ
 total_e d = be 4 (drop 1 d)
 
 abbrev pub checks_e : List ℕ → List Check
-checks_e d = (length d is 5 else 4) ∷ (total_e d at_most 2 ^ 32 - 2 else 7) ∷ []
+checks_e d = (length d is 5 else Framing) ∷ (total_e d at_most 2 ^ 32 - 2 else Bound) ∷ []
 
 unfoldable pub read_e : List ℕ → Verdict Packet
 read_e d = checked (checks_e d) (taken (end (total_e d)))
@@ -117,7 +118,7 @@ by_kind d =
     if kind d is 74 then read_j d else
     if kind d is 83 then read_s d else
     if kind d is 69 then read_e d else
-    refused 3
+    refused UnknownType
 
 -- what the desk says to a datagram; `Order` shows it as one list of checks, in the readers' order
 unfoldable pub read : List ℕ → Verdict Packet

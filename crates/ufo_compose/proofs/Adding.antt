@@ -12,6 +12,7 @@ use Rattle.wire.specs.Fields.{Bytes}
 use Rattle.wire.specs.Checks.{Verdict, refused, taken, ◌else◌, checked, ◌into◌}
 use Rattle.wire.specs.Reply.{within, settle}
 use Rattle.wire.specs.Datagram.{limit}
+use Rattle.wire.specs.declared.refusal.Refusal.TheVariants.{Overlong, Framing, Bound}
 use Rattle.wire.proofs.Tests.{by-test, leb-same}
 use Rattle.wire.proofs.Width.{bytes_take, length-bytes_of}
 use Rattle.blocks.specs.Blocks.{frame, frames}
@@ -73,7 +74,7 @@ module _ (out : List ℕ) (used : ℕ) (g : Begun out used) where
   begun-short = rw length_so_far at so-far-lawful.short
 
   module _ (m : Message) where
-    pub add-over : leb (length (frame (write_message m))) (limit - used) ≡ false → add_reply m out used ≡ refused 2
+    pub add-over : leb (length (frame (write_message m))) (limit - used) ≡ false → add_reply m out used ≡ refused Overlong
     unfolding add_reply verdict_after
     add-over t =
         let l = leb-false (length (frame (write_message m))) (limit - used) t in
@@ -103,9 +104,9 @@ module _ (out : List ℕ) (used : ℕ) (g : Begun out used) where
         ∙ rw (le-leb (2 + length w) limit (omega arith)) in
         rw (le-leb used (length out) g.inside, g.begun.is, behind, alone) (by (read_message w) (held_in m)) where
           by : (v : Verdict Message) (b : Bool)
-              → settle ((v into (λ x. taken (ms ++ (x ∷ [])))) into (λ os. checked ((b else 7) ∷ []) (taken os)))
+              → settle ((v into (λ x. taken (ms ++ (x ∷ [])))) into (λ os. checked ((b else Bound) ∷ []) (taken os)))
               (take used out ++ frame (write_message m)) (length out) ≡ settle
-              ((v into (λ x. taken (x ∷ []))) into (λ os. checked ((b else 7) ∷ []) (taken os))) (frame (write_message m))
+              ((v into (λ x. taken (x ∷ []))) into (λ os. checked ((b else Bound) ∷ []) (taken os))) (frame (write_message m))
               (length out - used) into (λ q. taken (take used out ++ q))
           by (refused n) b = refl
           by (taken x) false = refl
@@ -113,7 +114,7 @@ module _ (out : List ℕ) (used : ℕ) (g : Begun out used) where
               rw length_so_far at (behind-room (take used out) (frame (write_message m)) (length out) (rw length_so_far g.inside))
 
 module _ (m : Message) (out : List ℕ) (used : ℕ) where
-  pub add-past : length out < used → add_reply m out used ≡ refused 4
+  pub add-past : length out < used → add_reply m out used ≡ refused Framing
   unfolding add_reply
   add-past h = rw (lt-leb used (length out) h)
 

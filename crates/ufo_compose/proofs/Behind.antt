@@ -8,6 +8,7 @@ use borrow.Author.Tests.{lt-leb, ne_eqb}
 use lib.ListN.{length, length-append}
 use Rattle.wire.specs.Checks.{Verdict, refused, taken, ◌into◌}
 use Rattle.wire.specs.Datagram.{limit}
+use Rattle.wire.specs.declared.refusal.Refusal.TheVariants.{Overlong}
 use Rattle.blocks.specs.Blocks.{frame, frames, whole, upstream, Each, Full}
 use Rattle.blocks.proofs.Frames.{length-frame, frames-one, frames-append, short-frames}
 use Rattle.blocks.proofs.Cutting.{upstream-frames}
@@ -23,7 +24,7 @@ module _ (p w : List ℕ) where
   length-behind : length (p ++ frame w) ≡ length p + (2 + length w)
   length-behind = rw (length-append, length-frame)
 
-  pub read-over : limit < length p + (2 + length w) → read_up (p ++ frame w) ≡ refused 2
+  pub read-over : limit < length p + (2 + length w) → read_up (p ++ frame w) ≡ refused Overlong
   unfolding read_up
   read-over h =
       rw (length-behind, ne_eqb (length p + (2 + length w)) 0 (λ z. omega arith), lt-leb (length p + (2 + length w)) limit h)

@@ -11,6 +11,7 @@ use lib.Seq.{take_at}
 use Rattle.wire.specs.Checks.{◌at_most◌, Verdict, refused, taken, ◌else◌, checked, ◌into◌}
 use Rattle.wire.specs.Reply.{Reply, left_of, settle}
 use Rattle.wire.specs.Datagram.{limit}
+use Rattle.wire.specs.declared.refusal.Refusal.TheVariants.{Framing, Bound}
 use Rattle.wire.proofs.Checks.{all-passed, not-both, taken-same, went}
 use Rattle.wire.proofs.Settling.{within-taken, enough-room}
 use Rattle.blocks.specs.Blocks.{frame, frames}
@@ -40,9 +41,9 @@ module _ (m : Message) (out : List ℕ) (used : ℕ) (q : List ℕ) where
   settled (refused n) e t = not-both (refused n) n q refl t
   settled (taken ms) e t =
       let same = within-taken (length out) (take used out ++ frame (write_message m)) q t in
-      let w = went (read_up (take used out ++ frame (write_message (capped_in m)))) (λ os. checked ((held_in m else 7) ∷ []) (taken os))
+      let w = went (read_up (take used out ++ frame (write_message (capped_in m)))) (λ os. checked ((held_in m else Bound) ∷ []) (taken os))
       ms e in
-      let h = (all-passed ((held_in m else 7) ∷ []) (taken w.by) ms w.gave).0.0 in
+      let h = (all-passed ((held_in m else Bound) ∷ []) (taken w.by) ms w.gave).0.0 in
       let read : read_up (take used out ++ frame (write_message m)) ≡ taken w.by =
       ap (λ (x : Message). read_up (take used out ++ frame (write_message x))) (sym (held_same m h)) ∙ w.was in
       record { bytes = same; read = record { messages = w.by; is = rw same at read } }
@@ -51,7 +52,7 @@ module _ (m : Message) (out : List ℕ) (used : ℕ) (q : List ℕ) where
   unfolding add_reply
   made e =
       let p = take used out in
-      let a = all-passed ((used at_most length out else 4) ∷ [])
+      let a = all-passed ((used at_most length out else Framing) ∷ [])
       (so_far p into (λ _. settle (verdict_after p m) (p ++ frame (write_message m)) (length out))) q e in
       let w = went (so_far p) (λ _. settle (verdict_after p m) (p ++ frame (write_message m)) (length out)) q a.1 in
       settled (verdict_after p m) refl w.gave

@@ -9,21 +9,19 @@ use lib.ListN.{length, take, drop, length-append, length-drop, length-take, drop
 use lib.Seq.{drop-drop, take_all}
 use Rattle.wire.specs.Checks.{refused, taken, ◌into◌}
 use Rattle.wire.specs.Reply.{Reply, Settled}
-use Rattle.wire.specs.declared.output.Written.{Written}
-use Rattle.wire.specs.declared.output.Written.TheVariants.{Refused, Bytes}
 use Rattle.wire.proofs.Tests.{impossible}
 
 module _ (out last : List ℕ) (at n : ℕ) (h : at ≤ length out) where
   abbrev left : ℕ
   left = length out - at
 
-  pub given-refused : (y : Reply) (r : Written) → r ≡ Refused n → Settled y (mid_of at left out) r last
-      → Settled (y into (λ b. taken (take at out ++ b))) out (Refused n) (put_mid at left out last)
+  pub given-refused : (y : Reply) (r : Verdict ℕ) → r ≡ refused n → Settled y (mid_of at left out) r last
+      → Settled (y into (λ b. taken (take at out ++ b))) out (refused n) (put_mid at left out last)
   given-refused (refused m) r e s = record { answer = sym e ∙ s.answer; bytes = rw s.bytes (put_same at left out) }
   given-refused (taken b) r e s = impossible (cc (s.answer, e))
 
-  pub given-written : (y : Reply) (r : Written) → r ≡ Bytes n → Settled y (mid_of at left out) r last
-      → Settled (y into (λ b. taken (take at out ++ b))) out (Bytes (at + n)) (put_mid at left out last)
+  pub given-written : (y : Reply) (r : Verdict ℕ) → r ≡ taken n → Settled y (mid_of at left out) r last
+      → Settled (y into (λ b. taken (take at out ++ b))) out (taken (at + n)) (put_mid at left out last)
   given-written (refused m) r e s = impossible (cc (s.answer, e))
   given-written (taken b) r e s =
       let l : length (take at out ++ b) ≡ at + length b = rw (length-append, length-take) (omega arith) in
@@ -32,7 +30,7 @@ module _ (out last : List ℕ) (at n : ℕ) (h : at ≤ length out) where
       let none : drop left (drop at out) ≡ [] = drop_of_length-le (drop at out) {i = left} (rw length-drop (omega arith)) in
       record { answer = rw (l, k); bytes = rw (s.bytes, whole, none, append-nil, drop-drop, l, append_assoc) }
 
-  pub given_inside : (y : Reply) (r : Written) → r ≡ Bytes n → Settled y (mid_of at left out) r last
+  pub given_inside : (y : Reply) (r : Verdict ℕ) → r ≡ taken n → Settled y (mid_of at left out) r last
       → length last ≡ length (mid_of at left out) → at + n ≤ length out
   given_inside (refused m) r e s l = impossible (cc (s.answer, e))
   given_inside (taken b) r e s l =

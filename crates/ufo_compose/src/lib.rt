@@ -13,8 +13,7 @@ use ufo_up::up;
 use ufo_up::up::Upstream;
 use wire::datagram::LIMIT;
 use wire::kinds::{Name, Password, Sequence, User};
-use wire::output::Written;
-use wire::refusal;
+use wire::refusal::Refusal;
 
 // A message to be added. What an unsequenced one carries is lent beside it.
 #[derive(Clone, Copy)]
@@ -56,7 +55,7 @@ fn fits(message: Message, data: &[u8], room: usize) -> bool
 }
 
 // The message's block, from the output's start.
-fn write_message(message: Message, data: &[u8], out: &mut [u8]) -> Written
+fn write_message(message: Message, data: &[u8], out: &mut [u8]) -> Result<usize, Refusal>
     ensures { Settled (reply (message_of message «data».now) (length out.old))
         out.old result out.new }
 {
@@ -85,22 +84,22 @@ pub fn read_so_far(s: &[u8]) -> Upstream
 
 // The output's first `used` bytes are a packet so far, or nothing; the message is written behind them, and the answer counts
 // the whole. `data` is what an unsequenced message carries: for any other it is not looked at.
-pub fn add_message(message: Message, data: &[u8], out: &mut [u8], used: usize) -> Written
+pub fn add_message(message: Message, data: &[u8], out: &mut [u8], used: usize) -> Result<usize, Refusal>
     ensures { Settled (add_reply (message_of message «data».now) out.old used)
         out.old result out.new }
 {
     if out.len() < used {
-        return Written::Refused(refusal::FRAMING);
+        return Err(Refusal::Framing);
     }
     match read_so_far(&out[..used]) {
-        Upstream::Refused(n) => Written::Refused(n),
+        Upstream::Refused(n) => Err(n),
         Upstream::Messages(_) => {
             if !fits(message, data, LIMIT - used) {
-                return Written::Refused(refusal::OVERLONG);
+                return Err(Refusal::Overlong);
             }
             match write_message(message, data, &mut out[used..]) {
-                Written::Refused(n) => Written::Refused(n),
-                Written::Bytes(n) => Written::Bytes(used + n),
+                Err(n) => Err(n),
+                Ok(n) => Ok(used + n),
             }
         }
     }

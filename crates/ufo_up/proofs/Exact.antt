@@ -9,6 +9,7 @@ use lib.ListN.{length, length-map}
 use Rattle.wire.specs.Fields.{Bytes}
 use Rattle.wire.specs.Checks.{Verdict, refused, taken}
 use Rattle.wire.specs.Datagram.{limit, opening}
+use Rattle.wire.specs.declared.refusal.Refusal.TheVariants.{Framing}
 use Rattle.wire.proofs.Checks.{all-passed, not-both}
 use Rattle.blocks.specs.Blocks.{frame, frames, Cut, torn, whole, upstream, Each, Short, Full}
 use Rattle.blocks.proofs.Frames.{length-frames, frames-one, length-one, short-frames}
@@ -62,7 +63,7 @@ read-is-written d b ms e =
     let p = all-passed (opening d) (read_cut (upstream d)) ms e in
     by (upstream d) refl p.1 (leb-true (length d) limit p.0.1.0) where
       by : (q : Cut) → upstream d ≡ q → read_cut q ≡ taken ms → length d ≤ limit → Fit ms × (write_up ms ≡ d)
-      by torn u r l = not-both (refused 4) 4 ms refl r
+      by torn u r l = not-both (refused Framing) 4 ms refl r
       by (whole bs) u r l =
           let f = frames-upstream d bs b u in
           let w = write-each bs f.3 ms r in

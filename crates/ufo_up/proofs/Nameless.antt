@@ -9,6 +9,7 @@ use lib.ListN.{length, replicate, length-append}
 use Rattle.wire.specs.Fields.{Bytes}
 use Rattle.wire.specs.Checks.{refused, taken}
 use Rattle.wire.specs.Datagram.{limit}
+use Rattle.wire.specs.declared.refusal.Refusal.TheVariants.{Absent}
 use Rattle.wire.proofs.Checks.{all-passed}
 use Rattle.text.specs.Text.{letter_or_digit, blank, text_then_spaces}
 use Rattle.blocks.specs.Blocks.{frame, whole, upstream}
@@ -26,19 +27,19 @@ module _ (password session : List ℕ) (p : Field 10 password) (s : Field 10 ses
   abbrev nameless : List ℕ
   nameless = write_message (login (replicate 6 32) password session)
 
-  pub nameless-is-6 : read_message nameless ≡ refused 6
+  pub nameless-is-6 : read_message nameless ≡ refused Absent
   unfolding blank text_then_spaces letter_or_digit
   nameless-is-6 = checks-login (replicate 6 32) password session refl p.0 s.0 ∙ rw (p.1, s.1)
 
   -- a packet that is this login alone
-  pub nameless-packet-is-6 : read_up (frame nameless) ≡ refused 6
+  pub nameless-packet-is-6 : read_up (frame nameless) ≡ refused Absent
   nameless-packet-is-6 =
       let l : length nameless ≡ 27 = simp (length-append, p.0, s.0) refl in
       rw (read_one nameless (full-message (login (replicate 6 32) password session)), l, nameless-is-6)
 
   -- and any packet in which every message before it is taken, whatever comes after it
   pub nameless-among-others-is-6 : (d : List ℕ) (before after : List (List ℕ)) (ms : List Message) → length d ≤ limit
-      → upstream d ≡ whole (before ++ (nameless ∷ after)) → read_each before ≡ taken ms → read_up d ≡ refused 6
+      → upstream d ≡ whole (before ++ (nameless ∷ after)) → read_each before ≡ taken ms → read_up d ≡ refused Absent
   nameless-among-others-is-6 d before after ms l u t = first-refused d before nameless after ms 6 l u t nameless-is-6
 
 -- type 76 is L: it is not taken, whatever else it says

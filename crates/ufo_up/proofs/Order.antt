@@ -10,6 +10,7 @@ use borrow.Author.Tests.{eq-eqb}
 use lib.ListN.{length, drop}
 use Rattle.wire.specs.Checks.{◌is◌, Verdict, refused, taken, Check, ◌else◌, checked, ordered, ◌into◌}
 use Rattle.wire.specs.Datagram.{limit, opening}
+use Rattle.wire.specs.declared.refusal.Refusal.TheVariants.{UnknownType, Framing}
 use Rattle.wire.proofs.Tests.{by-test}
 use Rattle.wire.proofs.Checks.{into-checked}
 use Rattle.blocks.specs.Blocks.{Cut, torn, whole, upstream, is_whole, messages_of}
@@ -37,7 +38,7 @@ module _ (m : List ℕ) where
 
   -- all that is checked of a message, in one list
   abbrev pub checks : List Check
-  checks = (known else 3) ∷ of_type
+  checks = (known else UnknownType) ∷ of_type
 
   -- what it says, if none fails
   abbrev pub says : Message
@@ -67,7 +68,7 @@ module _ (m : List ℕ) where
 
 -- what is checked of a packet before its messages
 abbrev pub packet_checks : List ℕ → List Check
-packet_checks d = opening d ++ (is_whole (upstream d) else 4) ∷ []
+packet_checks d = opening d ++ (is_whole (upstream d) else Framing) ∷ []
 
 pub packet-in-order : (d : List ℕ) → ordered (packet_checks d) ≡ true
 packet-in-order d = refl
@@ -95,7 +96,7 @@ pub read-is-checked : (d : List ℕ) → let bs = messages_of (upstream d) in
 unfolding read_up
 read-is-checked d = by (upstream d) where
   by : (q : Cut) → let bs = messages_of q in
-      checked (opening d) (read_cut q) ≡ checked ((opening d ++ (is_whole q else 4) ∷ []) ++ each_checks bs) (taken (map says bs))
+      checked (opening d) (read_cut q) ≡ checked ((opening d ++ (is_whole q else Framing) ∷ []) ++ each_checks bs) (taken (map says bs))
   by torn = refl
   by (whole bs) = rw (each-is-checked bs)
 

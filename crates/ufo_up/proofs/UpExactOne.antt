@@ -10,6 +10,7 @@ use lib.ListN.{length, drop, length-append, length-drop, drop_of_length-le}
 use lib.Seq.{take_at, drop_at, take_all}
 use Rattle.wire.specs.Fields.{bytes_of, Bytes}
 use Rattle.wire.specs.Checks.{◌is◌, refused, taken, Check, ◌else◌, checked, Passed}
+use Rattle.wire.specs.declared.refusal.Refusal.TheVariants.{UnknownType, Form, Absent}
 use Rattle.text.specs.Text.{blank, text_then_spaces}
 use Rattle.wire.proofs.Tests.{nonzero}
 use Rattle.wire.proofs.Width.{be-bytes_of, be-last, be-lt, bytes_drop, length-bytes_of, length_part, part-again, first-again, written-again}
@@ -37,10 +38,10 @@ length-message logout f = omega arith
 
 -- what is left to check of a message that was written, by its fields
 abbrev pub left_l : List ℕ → List ℕ → List ℕ → List Check
-left_l u w s = (text_then_spaces u else 5) ∷ (text_then_spaces w else 5) ∷ (text_then_spaces s else 5) ∷ (not (blank u) else 6) ∷ []
+left_l u w s = (text_then_spaces u else Form) ∷ (text_then_spaces w else Form) ∷ (text_then_spaces s else Form) ∷ (not (blank u) else Absent) ∷ []
 
 abbrev pub left_t : ℕ → ℕ → List Check
-left_t n c = (not (n is 0) else 6) ∷ (not (c is 0) else 6) ∷ []
+left_t n c = (not (n is 0) else Absent) ∷ (not (c is 0) else Absent) ∷ []
 
 pub checks-login : (u w s : List ℕ) → length u ≡ 6 → length w ≡ 10 → length s ≡ 10
     → read_message (write_message (login u w s)) ≡ checked (left_l u w s) (taken (login u w s))
@@ -128,4 +129,4 @@ write-message s b m =
     (came-by k 85 (checks_u s) _ m _ (written-U s b m)
     (came-by k 82 (checks_alone s) _ m _ (written-alone s b m heartbeat 82 tt refl (omega arith))
     (came-by k 79 (checks_alone s) _ m _ (written-alone s b m logout 79 tt refl (omega arith))
-    (not-both (refused 3) 3 m refl)))))
+    (not-both (refused UnknownType) 3 m refl)))))

@@ -9,6 +9,7 @@ use borrow.Author.Tests.{eq-eqb, ne_eqb}
 use lib.ListN.{length}
 use Rattle.wire.specs.Fields.{Bytes}
 use Rattle.wire.specs.Checks.{Verdict, refused, taken}
+use Rattle.wire.specs.declared.refusal.Refusal.TheVariants.{Framing}
 use Rattle.wire.proofs.Checks.{not-both}
 use Rattle.blocks.specs.Blocks.{end_at, block_at}
 use Rattle.blocks.specs.declared.Block.TheVariants as block
@@ -19,7 +20,7 @@ use Rattle.ufo_up.proofs.UpMessage.{over-at}
 use Rattle.ufo_up.proofs.UpInTurn.{length_more, read-there, read-last}
 
 -- no block starts at a place that was passed
-passed-by : (at place : ℕ) (ms : List Message) → place < at → message_from at ms place ≡ refused 4
+passed-by : (at place : ℕ) (ms : List Message) → place < at → message_from at ms place ≡ refused Framing
 unfolding message_from
 passed-by at place [] h = refl
 passed-by at place (m ∷ ms) h =
@@ -73,7 +74,7 @@ module _ (d : List ℕ) (bytes : Bytes d) (place at : ℕ) (r : Reaches d place 
     by (m ∷ b) e q =
         not-both (message_at d at) 4 m (over-at d at (missed d at n f).1) (rw r.reached (read-there d bytes r.gone m b e).0)
 
-  pub reaches-past : place < at → message_in d place ≡ refused 4
+  pub reaches-past : place < at → message_in d place ≡ refused Framing
   reaches-past h = r.answer ∙ passed-by at place r.others h
 
   pub reaches_here : at ≡ place → message_in d place ≡ message_at d place

@@ -7,6 +7,7 @@ use native.Mathlib.Omega.{arith}
 use borrow.Author.Tests.{ne_eqb}
 use lib.ListN.{length, length-append}
 use Rattle.wire.specs.Checks.{refused}
+use Rattle.wire.specs.declared.refusal.Refusal.TheVariants.{Framing}
 use Rattle.wire.proofs.Width.{length-bytes_of}
 use Rattle.ufo_up.specs.Up.{Message, login, request, unsequenced, heartbeat, logout, write_message, read_l, read_t, read_alone}
 use Rattle.ufo_up.specs.Up.{read_message}
@@ -21,7 +22,7 @@ Ends heartbeat = Unit
 Ends logout = Unit
 
 module _ (more : List ℕ) (h : 0 < length more) where
-  pub longer-is-4 : (m : Message) → Ends m → read_message (write_message m ++ more) ≡ refused 4
+  pub longer-is-4 : (m : Message) → Ends m → read_message (write_message m ++ more) ≡ refused Framing
   unfolding read_l read_t read_alone
   longer-is-4 (login u w s) f =
       let d = write_message (login u w s) ++ more in

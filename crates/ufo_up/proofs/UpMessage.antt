@@ -9,6 +9,7 @@ use native.Mathlib.Omega.{arith}
 use borrow.Author.Tests.{le-leb, lt-leb, eq-eqb, ne_eqb}
 use lib.ListN.{length, drop}
 use Rattle.wire.specs.Checks.{◌is◌, Verdict, refused, taken}
+use Rattle.wire.specs.declared.refusal.Refusal.TheVariants.{UnknownType, Framing}
 use Rattle.blocks.specs.Blocks.{stated, end_at, block_at}
 use Rattle.blocks.specs.declared.Block.TheVariants as block
 use Rattle.blocks.proofs.NextBlock.{missed}
@@ -24,22 +25,22 @@ module _ (m : List ℕ) where
   of-kind n e = rw e
 
   pub is_none : (kind m ≡ 76 → ⊥) → (kind m ≡ 84 → ⊥) → (kind m ≡ 85 → ⊥) → (kind m ≡ 82 → ⊥) → (kind m ≡ 79 → ⊥)
-      → read_message m ≡ refused 3
+      → read_message m ≡ refused UnknownType
   unfolding read_message
   is_none l t u r o =
       rw (ne_eqb (kind m) 76 l, ne_eqb (kind m) 84 t, ne_eqb (kind m) 85 u, ne_eqb (kind m) 82 r, ne_eqb (kind m) 79 o)
 
   pub alone : (said : Message) (next : ℕ)
-      → (if length m is 1 then up_of next (taken said) else up.Refused 4) ≡ up_of next (read_alone said m)
+      → (if length m is 1 then up_of next (taken said) else up.Refused Framing) ≡ up_of next (read_alone said m)
   unfolding read_alone
   alone said next = by (length m is 1) where
-    by : (b : Bool) → (if b then up_of next (taken said) else up.Refused 4) ≡ up_of next (if b then taken said else refused 4)
+    by : (b : Bool) → (if b then up_of next (taken said) else up.Refused Framing) ≡ up_of next (if b then taken said else refused Framing)
     by true = refl
     by false = refl
 
 module _ (d : List ℕ) (p : ℕ) where
   -- no block stands at p
-  pub over-at : length d < end_at d p → message_at d p ≡ refused 4
+  pub over-at : length d < end_at d p → message_at d p ≡ refused Framing
   unfolding message_at
   over-at h = rw (lt-leb (end_at d p) (length d) h)
 
@@ -48,7 +49,7 @@ module _ (d : List ℕ) (p : ℕ) where
 
   -- one does
   module _ (start size next : ℕ) (f : Found d p start size next) where
-    pub empty-at : size ≡ 0 → up.Refused 4 ≡ up_of (end_at d p) (message_at d p)
+    pub empty-at : size ≡ 0 → up.Refused Framing ≡ up_of (end_at d p) (message_at d p)
     unfolding message_at
     empty-at z =
         rw (le-leb (end_at d p) (length d) (omega (arith, f.ends, f.inside)), eq-eqb (stated (drop p d)) 0 (sym f.states ∙ z))

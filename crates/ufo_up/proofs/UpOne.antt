@@ -9,6 +9,7 @@ use lib.Dec.{leb}
 use lib.ListN.{length}
 use Rattle.wire.specs.Checks.{◌at_most◌, taken, ◌else◌, checked, ◌into◌}
 use Rattle.wire.specs.Datagram.{limit}
+use Rattle.wire.specs.declared.refusal.Refusal.TheVariants.{Overlong}
 use Rattle.wire.proofs.Tests.{by-test}
 use Rattle.blocks.specs.Blocks.{frame, whole, upstream}
 use Rattle.blocks.proofs.Frames.{length-frame, frames-one}
@@ -16,7 +17,7 @@ use Rattle.blocks.proofs.Cutting.{upstream-frames}
 use Rattle.ufo_up.specs.Up.{read_message, read_each, read_up}
 
 pub read_one : (m : List ℕ) → 0 < length m
-    → read_up (frame m) ≡ checked ((2 + length m at_most limit else 2) ∷ []) (read_message m into λ x. taken (x ∷ []))
+    → read_up (frame m) ≡ checked ((2 + length m at_most limit else Overlong) ∷ []) (read_message m into λ x. taken (x ∷ []))
 unfolding read_up read_each
 read_one m h =
     let some = ne_eqb (2 + length m) 0 (λ z. omega arith) in

@@ -5,6 +5,7 @@ use Rattle.std.specs.Prelude.{if◌then◌else◌}
 use Rattle.wire.specs.Fields.{be, bytes_of, Bytes}
 use Rattle.wire.specs.Checks.{◌is◌, ◌at_most◌, Verdict, refused, taken, Check, ◌else◌, checked, ◌into◌}
 use Rattle.wire.specs.Datagram.{limit, opening}
+use Rattle.wire.specs.declared.refusal.Refusal.TheVariants.{UnknownType, Framing, Form, Absent}
 use Rattle.names.specs.Names.{name_of, user_of}
 use Rattle.text.specs.Text.{blank, text_then_spaces}
 use Rattle.blocks.specs.Blocks.{frames, stated, first, Cut, torn, whole, upstream, end_at}
@@ -76,11 +77,11 @@ session_l m = take 10 (drop 17 m)
 -- three text fields, of which the user is not blank
 abbrev pub checks_l : List ℕ → List Check
 checks_l m =
-    (length m is 27 else 4)
-    ∷ (text_then_spaces (user_l m) else 5)
-    ∷ (text_then_spaces (password_l m) else 5)
-    ∷ (text_then_spaces (session_l m) else 5)
-    ∷ (not (blank (user_l m)) else 6)
+    (length m is 27 else Framing)
+    ∷ (text_then_spaces (user_l m) else Form)
+    ∷ (text_then_spaces (password_l m) else Form)
+    ∷ (text_then_spaces (session_l m) else Form)
+    ∷ (not (blank (user_l m)) else Absent)
     ∷ []
 
 unfoldable pub read_l : List ℕ → Verdict Message
@@ -95,9 +96,9 @@ count_t m = be 2 (drop 5 m)
 -- a number and a count, neither of them 0
 abbrev pub checks_t : List ℕ → List Check
 checks_t m =
-    (length m is 7 else 4)
-    ∷ (not (first_t m is 0) else 6)
-    ∷ (not (count_t m is 0) else 6)
+    (length m is 7 else Framing)
+    ∷ (not (first_t m is 0) else Absent)
+    ∷ (not (count_t m is 0) else Absent)
     ∷ []
 
 unfoldable pub read_t : List ℕ → Verdict Message
@@ -105,14 +106,14 @@ read_t m = checked (checks_t m) (taken (request (first_t m) (count_t m)))
 
 -- data. More than the most is too long, whatever the packet: with the type byte and the block's length it would not stand in one
 abbrev pub checks_u : List ℕ → List Check
-checks_u m = (length m at_most 1 + most_data else 4) ∷ []
+checks_u m = (length m at_most 1 + most_data else Framing) ∷ []
 
 unfoldable pub read_u : List ℕ → Verdict Message
 read_u m = checked (checks_u m) (taken (unsequenced (drop 1 m)))
 
 -- the type byte alone
 abbrev pub checks_alone : List ℕ → List Check
-checks_alone m = (length m is 1 else 4) ∷ []
+checks_alone m = (length m is 1 else Framing) ∷ []
 
 unfoldable pub read_alone : Message → List ℕ → Verdict Message
 read_alone said m = checked (checks_alone m) (taken said)
@@ -125,7 +126,7 @@ by_kind kind m =
     if kind is 85 then read_u m else
     if kind is 82 then read_alone heartbeat m else
     if kind is 79 then read_alone logout m else
-    refused 3
+    refused UnknownType
 
 unfoldable pub read_message : List ℕ → Verdict Message
 read_message m = by_kind (kind m) m
@@ -136,7 +137,7 @@ read_each [] = taken []
 read_each (b ∷ bs) = read_message b into (λ m. read_each bs into (λ ms. taken (m ∷ ms)))
 
 abbrev pub read_cut : Cut → Verdict (List Message)
-read_cut torn = refused 4
+read_cut torn = refused Framing
 read_cut (whole bs) = read_each bs
 
 -- the packet's length comes first, then the blocks over all of it, then the messages; `Order` shows it as one list of checks
@@ -151,12 +152,12 @@ upstream_of (taken ms) = packet.Messages (length ms)
 -- the message whose block stands at p: all of it is there, and it is not empty
 unfoldable pub message_at : List ℕ → ℕ → Verdict Message
 message_at d p =
-    checked ((end_at d p at_most length d else 4) ∷ (not (stated (drop p d) is 0) else 4) ∷ [])
+    checked ((end_at d p at_most length d else Framing) ∷ (not (stated (drop p d) is 0) else Framing) ∷ [])
     (read_message (first (drop p d)))
 
 -- of messages whose blocks stand from `at` on, the one whose block stands at a place
 unfoldable pub message_from : ℕ → List Message → ℕ → Verdict Message
-message_from at [] place = refused 4
+message_from at [] place = refused Framing
 message_from at (m ∷ ms) place =
     if at is place then taken m else message_from (at + 2 + length (write_message m)) ms place
 

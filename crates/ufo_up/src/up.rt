@@ -9,19 +9,20 @@ ghost use Rattle.ufo_up.specs.Up.{upstream_of, up_of, next_of, is_taken};
 use blocks::{Block, Count, Place};
 use wire::datagram::LIMIT;
 use wire::kinds::{Name, Password, Sequence, User};
-use wire::{fields, refusal};
+use wire::refusal::Refusal;
+use wire::fields;
 
 // A whole packet: how many messages it has.
 #[derive(Clone, Copy)]
 pub enum Upstream {
-    Refused(u8),
+    Refused(Refusal),
     Messages(usize),
 }
 
 // One message: its fields, and the place where the next one stands.
 #[derive(Clone, Copy)]
 pub enum Up {
-    Refused(u8),
+    Refused(Refusal),
     Login {
         user: User,
         password: Password,
@@ -51,22 +52,22 @@ fn read_l(m: &[u8], next: usize) -> Up
     ensures { result ≡ up_of next (read_l m.now) }
 {
     if m.len() != 27 {
-        return Up::Refused(refusal::FRAMING);
+        return Up::Refused(Refusal::Framing);
     }
     let user = &m[1..7];
     if !text::is_text_then_spaces(user) {
-        return Up::Refused(refusal::FORM);
+        return Up::Refused(Refusal::Form);
     }
     let password = &m[7..17];
     if !text::is_text_then_spaces(password) {
-        return Up::Refused(refusal::FORM);
+        return Up::Refused(Refusal::Form);
     }
     let session = &m[17..27];
     if !text::is_text_then_spaces(session) {
-        return Up::Refused(refusal::FORM);
+        return Up::Refused(Refusal::Form);
     }
     if text::is_blank(user) {
-        return Up::Refused(refusal::ABSENT);
+        return Up::Refused(Refusal::Absent);
     }
     Up::Login {
         user: names::get_user(user, 0),
@@ -80,15 +81,15 @@ fn read_t(m: &[u8], next: usize) -> Up
     ensures { result ≡ up_of next (read_t m.now) }
 {
     if m.len() != 7 {
-        return Up::Refused(refusal::FRAMING);
+        return Up::Refused(Refusal::Framing);
     }
     let first = fields::get4(m, 1);
     if first == 0 {
-        return Up::Refused(refusal::ABSENT);
+        return Up::Refused(Refusal::Absent);
     }
     let count = fields::get2(m, 5);
     if count == 0 {
-        return Up::Refused(refusal::ABSENT);
+        return Up::Refused(Refusal::Absent);
     }
     Up::Request {
         first: Sequence(first as u64),
@@ -102,7 +103,7 @@ fn read_u(m: &[u8], next: usize) -> Up
     ensures { result ≡ up_of next (read_u m.now) }
 {
     if LIMIT - 2 < m.len() {
-        return Up::Refused(refusal::FRAMING);
+        return Up::Refused(Refusal::Framing);
     }
     let length = m.len() - 1;
     Up::Unsequenced {
@@ -117,7 +118,7 @@ fn alone(m: &[u8], said: Up) -> Up
     ensures { result ≡ (if length m.now is 1 then said else Up.Refused 4) }
 {
     if m.len() != 1 {
-        return Up::Refused(refusal::FRAMING);
+        return Up::Refused(Refusal::Framing);
     }
     said
 }
@@ -134,7 +135,7 @@ fn message_at(d: &[u8], place: usize) -> Up
             next,
         } => {
             if length == 0 {
-                return Up::Refused(refusal::FRAMING);
+                return Up::Refused(Refusal::Framing);
             }
             let m = &d[start..next];
             match m[0] {
@@ -143,7 +144,7 @@ fn message_at(d: &[u8], place: usize) -> Up
                 b'U' => read_u(m, next),
                 b'R' => alone(m, Up::Heartbeat { next }),
                 b'O' => alone(m, Up::Logout { next }),
-                _ => Up::Refused(refusal::UNKNOWN_TYPE),
+                _ => Up::Refused(Refusal::UnknownType),
             }
         }
     }
@@ -200,10 +201,10 @@ pub fn read_up(d: &[u8]) -> Upstream
     ensures { result ≡ upstream_of (read_up d.now) }
 {
     if d.len() == 0 {
-        return Upstream::Refused(refusal::EMPTY);
+        return Upstream::Refused(Refusal::Empty);
     }
     if LIMIT < d.len() {
-        return Upstream::Refused(refusal::OVERLONG);
+        return Upstream::Refused(Refusal::Overlong);
     }
     match blocks::count_upstream(d) {
         Count::Refused(n) => Upstream::Refused(n),
@@ -232,7 +233,7 @@ fn find_message(d: &[u8], place: usize) -> Up
         }
     }
     if place < at {
-        return Up::Refused(refusal::FRAMING);
+        return Up::Refused(Refusal::Framing);
     }
     message_at(d, place)
 }

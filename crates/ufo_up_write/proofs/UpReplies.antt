@@ -11,6 +11,7 @@ use lib.Dec.{leb, eqb}
 use Rattle.wire.specs.Checks.{◌is◌, ◌at_most◌, taken, Check, ◌else◌, checked}
 use Rattle.wire.specs.Reply.{within}
 use Rattle.wire.specs.Datagram.{limit}
+use Rattle.wire.specs.declared.refusal.Refusal.TheVariants.{Overlong, Bound}
 use Rattle.wire.proofs.Tests.{by-test}
 use Rattle.wire.proofs.Checks.{into-checked}
 use Rattle.wire.proofs.Settling.{settle-further}
@@ -34,11 +35,11 @@ read-framed cs m l e =
 -- and the reply
 replies : (cs : List Check) (m : Message) (room : ℕ) → length (write_message (capped_in m)) ≤ 1470
     → read_message (write_message (capped_in m)) ≡ checked cs (taken (capped_in m))
-    → reply m room ≡ checked cs (checked ((held_in m else 7) ∷ []) (within room (frame (write_message m))))
+    → reply m room ≡ checked cs (checked ((held_in m else Bound) ∷ []) (within room (frame (write_message m))))
 unfolding reply verdict
 replies cs m room l e =
     rw (read-framed cs (capped_in m) l e)
-    (settle-further cs ((held_in m else 7) ∷ []) (capped_in m ∷ []) (frame (write_message m)) room)
+    (settle-further cs ((held_in m else Bound) ∷ []) (capped_in m ∷ []) (frame (write_message m)) room)
 
 pub reply-login : (u w s : List ℕ) (room : ℕ) → length u ≡ 6 → length w ≡ 10 → length s ≡ 10
     → reply (login u w s) room ≡ checked (left_l u w s) (within room (frame (write_message (login u w s))))
@@ -47,7 +48,7 @@ reply-login u w s room hu hw hs =
     replies (left_l u w s) (login u w s) room (omega arith) (checks-login u w s hu hw hs)
 
 pub reply-request : (n c room : ℕ) → c < 2 ^ 16
-    → reply (request n c) room ≡ checked (left_t n c) (checked ((held n else 7) ∷ []) (within room (frame (write_message (request n c)))))
+    → reply (request n c) room ≡ checked (left_t n c) (checked ((held n else Bound) ∷ []) (within room (frame (write_message (request n c)))))
 reply-request n c room h =
     let k = capped n in
     let l : length (write_message (request k c)) ≡ 7 = simp (length-append, length-bytes_of) refl in
@@ -60,7 +61,7 @@ reply-request n c room h =
           (λ q. let z = eqb-false n 0 q in rw q (ne_eqb (capped n) 0 (λ e. z (omega arith))))
 
 pub reply-unsequenced : (b : List ℕ) (room : ℕ)
-    → reply (unsequenced b) room ≡ checked ((length b at_most 1469 else 2) ∷ []) (within room (frame (85 ∷ b)))
+    → reply (unsequenced b) room ≡ checked ((length b at_most 1469 else Overlong) ∷ []) (within room (frame (85 ∷ b)))
 unfolding reply verdict read_up
 reply-unsequenced b room =
     by-test (leb (length b) 1469)

@@ -3,6 +3,7 @@
 use Rattle.std.specs.Prelude.{ℕ, List, [], ◌∷◌, Bool, true}
 use Rattle.wire.specs.Checks.{Verdict, taken, ◌else◌, checked, ◌into◌}
 use Rattle.wire.specs.Reply.{Reply, settle}
+use Rattle.wire.specs.declared.refusal.Refusal.TheVariants.{Bound}
 use Rattle.blocks.specs.Blocks.{frame}
 use Rattle.ufo.specs.Numbers.{held, capped}
 use Rattle.ufo_up.specs.Up.{Message, login, request, unsequenced, heartbeat, logout, write_message, read_up}
@@ -25,7 +26,7 @@ held_in logout = true
 
 -- what the reader says of the packet that holds this message alone; then a number that its field can't hold is 7
 unfoldable pub verdict : Message → Verdict (List Message)
-verdict m = read_up (frame (write_message (capped_in m))) into (λ ms. checked ((held_in m else 7) ∷ []) (taken ms))
+verdict m = read_up (frame (write_message (capped_in m))) into (λ ms. checked ((held_in m else Bound) ∷ []) (taken ms))
 
 -- `UpReplies` shows the reply by the message's fields, and that a lawful one is written
 unfoldable pub reply : Message → ℕ → Reply

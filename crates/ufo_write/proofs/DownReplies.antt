@@ -11,6 +11,7 @@ use lib.ListN.{length}
 use lib.Dec.{leb}
 use Rattle.wire.specs.Checks.{Check, ◌else◌, checked, refused, taken}
 use Rattle.wire.specs.Reply.{Reply, within}
+use Rattle.wire.specs.declared.refusal.Refusal.TheVariants.{Bound}
 use Rattle.wire.proofs.Tests.{by-test}
 use Rattle.wire.proofs.Settling.{settle-checked, settle-further}
 use Rattle.blocks.specs.Blocks.{cut, messages_of}
@@ -22,11 +23,11 @@ use Rattle.ufo.proofs.DownLaid.{of_accept, of_reject, of_messages, of_end, laid-
 -- the checks of a packet with a number, of which those at the highest number refuse whatever is more
 module _ (lay : ℕ → List ℕ) (cs : ℕ → List Check) (p : ℕ → Packet)
     (reads : (n : ℕ) → n < 2 ^ 32 → read (lay n) ≡ checked (cs n) (taken (p n))) (n room : ℕ) where
-  numbered : (highest < n → checked (cs highest) (refused 7) ≡ checked (cs n) (within room (lay n)))
+  numbered : (highest < n → checked (cs highest) (refused Bound) ≡ checked (cs n) (within room (lay n)))
       → reply lay n room ≡ checked (cs n) (within room (lay n))
   numbered above =
       rw (reads (capped n) (omega arith))
-      (settle-further (cs (capped n)) ((held n else 7) ∷ []) (p (capped n)) (lay n) room
+      (settle-further (cs (capped n)) ((held n else Bound) ∷ []) (p (capped n)) (lay n) room
       ∙ by-test (held n)
       (λ q.
       let h = leb-true n highest q in
@@ -58,7 +59,7 @@ messages-reply first count blocks room k =
     (λ h. rw (
       ne_eqb first 0 (λ e. omega arith),
       lt-leb (first + count) (2 ^ 32 - 1) (omega arith),
-      alike (leb (2 ^ 32 - 1 + count) (2 ^ 32 - 1)) (refused 7),
+      alike (leb (2 ^ 32 - 1 + count) (2 ^ 32 - 1)) (refused Bound),
     )) where
       alike : (b : Bool) (v : Reply) → if b then v else v ≡ v
       alike true v = refl

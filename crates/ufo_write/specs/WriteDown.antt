@@ -3,6 +3,7 @@
 use Rattle.std.specs.Prelude.{ℕ, List, [], ◌∷◌}
 use Rattle.wire.specs.Checks.{Verdict, taken, ◌else◌, checked, ◌into◌}
 use Rattle.wire.specs.Reply.{Reply, settle}
+use Rattle.wire.specs.declared.refusal.Refusal.TheVariants.{Bound}
 use Rattle.ufo.specs.Numbers.{held, capped}
 use Rattle.ufo.specs.Down.{Packet, accept, reject, end, laid, write, read}
 
@@ -10,7 +11,7 @@ use Rattle.ufo.specs.Down.{Packet, accept, reject, end, laid, write, read}
 -- place after all else that the reader refuses. `DownReplies` shows each reply by the packet's fields, `DownLawful` that a lawful packet is
 -- written
 abbrev pub verdict : (ℕ → List ℕ) → ℕ → Verdict Packet
-verdict lay n = read (lay (capped n)) into (λ p. checked ((held n else 7) ∷ []) (taken p))
+verdict lay n = read (lay (capped n)) into (λ p. checked ((held n else Bound) ∷ []) (taken p))
 
 abbrev pub reply : (ℕ → List ℕ) → ℕ → ℕ → Reply
 reply lay n room = settle (verdict lay n) (lay n) room

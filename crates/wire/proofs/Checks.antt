@@ -7,13 +7,14 @@ use mathlib.Core.List.{List, [], ◌∷◌}
 use mathlib.Core.Bool.{Bool, true, false, not, ◌&&◌, ◌||◌}
 use borrow.Author.Tests.{eqb-true}
 use Rattle.wire.specs.Checks.{◌is◌, Check, ◌else◌, checked, Passed, Verdict, refused, taken, ◌into◌}
+use Rattle.wire.specs.declared.refusal.Refusal.{Refusal}
 use Rattle.wire.proofs.Tests.{by-test, impossible}
 
 -- a refusal is no taking
-pub not-both : {A : Type 0} {C : Type 0} (v : Verdict A) (n : ℕ) (a : A) → v ≡ refused n → v ≡ taken a → C
-not-both v n a p q = impossible cc
+pub not-both : {A : Type 0} {C : Type 0} (v : Verdict A) (why : Refusal) (a : A) → v ≡ refused why → v ≡ taken a → C
+not-both v why a p q = impossible cc
 
-pub taken-same : {A : Type 0} (a b : A) → taken a ≡ taken b → a ≡ b
+pub taken-same : {A : Type 0} (a b : A) → ◌≡◌ {A = Verdict A} (taken a) (taken b) → a ≡ b
 taken-same a b e = cc
 
 -- a choice that equals v has come from one of its arms
@@ -28,7 +29,7 @@ module _ {A : Type 0} where
   all-passed (c ∷ cs) v a e =
       by-test c.test
       (λ q. let r = all-passed cs v a (rw q at e) in ((q, r.0), r.1))
-      (λ q. not-both (checked (c ∷ cs) v) c.number a (rw q refl) e)
+      (λ q. not-both (checked (c ∷ cs) v) c.why a (rw q refl) e)
 
   pub passed-all : (cs : List Check) (v : Verdict A) → Passed cs → checked cs v ≡ v
   passed-all [] v p = refl
@@ -42,23 +43,23 @@ module _ {A : Type 0} where
       (λ q e. let c = all-passed cs (taken a) p e in here (eqb-true k n q) c.0 (taken-same a p c.1))
       (λ _. there)
 
-  -- two checks under one number are one
-  module _ (n : ℕ) (a b : Bool) (cs : List Check) (v : Verdict A) where
-    pub checked-both : checked ((a else n) ∷ (b else n) ∷ cs) v ≡ (if a && b then checked cs v else refused n)
+  -- two checks that refuse alike are one
+  module _ (why : Refusal) (a b : Bool) (cs : List Check) (v : Verdict A) where
+    pub checked-both : checked ((a else why) ∷ (b else why) ∷ cs) v ≡ (if a && b then checked cs v else refused why)
     checked-both = by-test a (λ e. rw e) (λ e. rw e)
 
-    pub checked-neither : checked ((not a else n) ∷ (not b else n) ∷ cs) v ≡ (if a || b then refused n else checked cs v)
+    pub checked-neither : checked ((not a else why) ∷ (not b else why) ∷ cs) v ≡ (if a || b then refused why else checked cs v)
     checked-neither = by-test a (λ e. rw e) (λ e. rw e (by-test b (λ f. rw f) (λ f. rw f)))
 
 module _ {A B : Type 0} where
   -- what lets refusals stand goes through a list of checks
-  pub through : (g : Verdict A → Verdict B) → ((n : ℕ) → g (refused n) ≡ refused n) → (cs : List Check) (v : Verdict A)
+  pub through : (g : Verdict A → Verdict B) → ((why : Refusal) → g (refused why) ≡ refused why) → (cs : List Check) (v : Verdict A)
       → g (checked cs v) ≡ checked cs (g v)
   through g stands [] v = refl
   through g stands (c ∷ cs) v =
       by-test c.test
       (λ q. rw q (through g stands cs v))
-      (λ q. rw q (stands c.number))
+      (λ q. rw q (stands c.why))
 
   pub into-checked : (cs : List Check) (v : Verdict A) (next : A → Verdict B) → checked cs v into next ≡ checked cs (v into next)
   into-checked cs v next = through (λ w. w into next) (λ n. refl) cs v
@@ -70,5 +71,5 @@ module _ {A B : Type 0} where
     pub gave : next by ≡ taken b
 
   pub went : (v : Verdict A) (next : A → Verdict B) (b : B) → v into next ≡ taken b → Went v next b
-  went (refused n) next b e = not-both (refused n) n b refl e
+  went (refused why) next b e = not-both (refused why) why b refl e
   went (taken a) next b e = record { by = a; was = refl; gave = e }

@@ -12,8 +12,8 @@ use contract.Lifetimes.{Lfts}
 use contract.Monad.{fact}
 use denote.Triple.Clauses.{AtExit, Clauses, Ended, Lasts, at_exit}
 use denote.Triple.Entry.{Args, Res}
+use Rattle.wire.specs.Checks.{Verdict}
 use Rattle.wire.specs.Reply.{Reply, Settled}
-use Rattle.wire.specs.declared.output.Written.{Written}
 
 -- of a function's contract, as it is generated from the source: `left` is what is read off whatever was lent, when it returns
 abbrev pub Determined : (n : ℕ) (ps : List (ParamKind n)) (r : ResultKind n) (B : Type 0)
@@ -40,7 +40,7 @@ pub same-both : {A B : Type 0} {x y v : A} {l m w : B} → x ≡ v → y ≡ v �
 same-both p q r s = (p ∙ sym q, r ∙ sym s)
 
 -- as where a reply settles them
-pub same-reply : {reply : Reply} {out l m : List ℕ} {x y : Written} → Settled reply out x l → Settled reply out y m → (x ≡ y) × (l ≡ m)
+pub same-reply : {reply : Reply} {out l m : List ℕ} {x y : Verdict ℕ} → Settled reply out x l → Settled reply out y m → (x ≡ y) × (l ≡ m)
 same-reply p q = same-both p.answer q.answer p.bytes q.bytes
 
 -- Over a reference to a struct, or a struct that holds a reference, a contract has no generated reading. Of it the same is said over its

@@ -11,14 +11,14 @@ use lib.Seq.{sets, sets-eq, drop-drop}
 use borrow.Rule.Slice.PartMut.{put_mid}
 use Rattle.wire.specs.Checks.{◌at_most◌, Check, checked, Verdict, refused, taken, ◌into◌}
 use Rattle.wire.specs.Reply.{Reply, Settled, within, settle}
-use Rattle.wire.specs.declared.output.Written.{Written}
-use Rattle.wire.specs.declared.output.Written.TheVariants.{Refused, Bytes}
+use Rattle.wire.specs.declared.refusal.Refusal.TheVariants.{Room}
+use Rattle.wire.specs.declared.refusal.Refusal.{Refusal}
 use Rattle.wire.proofs.Checks.{not-both, taken-same, chosen, through, into-checked}
 use Rattle.wire.proofs.Width.{length_part}
 
 -- a refusal
-pub refuses : (reply : Reply) (out : List ℕ) (n : ℕ) → reply ≡ refused n → Settled reply out (Refused n) out
-refuses reply out n e = rw e (record { answer = refl; bytes = refl })
+pub refuses : (reply : Reply) (out : List ℕ) (why : Refusal) → reply ≡ refused why → Settled reply out (refused why) out
+refuses reply out why e = rw e (record { answer = refl; bytes = refl })
 
 -- what is stored at a place stands between the output's bytes before it and those after it
 pub stored_at : (out packet : List ℕ) (at : ℕ) → at + length packet ≤ length out → sets out at packet ≡ take at out
@@ -32,16 +32,16 @@ stored packet out h = rw zero-add at (stored_at out packet 0 (omega arith))
 
 -- a packet
 pub writes : (reply : Reply) (out packet left : List ℕ) (n : ℕ) → reply ≡ taken packet → n ≡ length packet → length packet ≤ length out
-    → left ≡ sets out 0 packet → Settled reply out (Bytes n) left
+    → left ≡ sets out 0 packet → Settled reply out (taken n) left
 writes reply out packet left n e l h s = rw (e, l) (record { answer = refl; bytes = s ∙ stored packet out h })
 
 -- what is settled by a reply is settled by its equal
-pub settled-by : {reply other : Reply} {out left : List ℕ} {r : Written} → reply ≡ other → Settled reply out r left
+pub settled-by : {reply other : Reply} {out left : List ℕ} {r : Verdict ℕ} → reply ≡ other → Settled reply out r left
     → Settled other out r left
 settled-by {out = out} {left = left} {r = r} e h = subst (λ (y : Reply). Settled y out r left) e h
 
 -- a packet with too little room, and one with enough
-pub no_room : (packet : List ℕ) (room : ℕ) → room < length packet → within room packet ≡ refused 9
+pub no_room : (packet : List ℕ) (room : ℕ) → room < length packet → within room packet ≡ refused Room
 no_room packet room h = rw (lt-leb (length packet) room h)
 
 pub enough-room : (packet : List ℕ) (room : ℕ) → length packet ≤ room → within room packet ≡ taken packet
@@ -50,17 +50,17 @@ enough-room packet room h = rw (le-leb (length packet) room h)
 -- what was taken within a room is the packet
 pub within-taken : (room : ℕ) (packet given : List ℕ) → within room packet ≡ taken given → packet ≡ given
 within-taken room packet given =
-    chosen (length packet at_most room) (taken packet) (refused 9) (taken given)
+    chosen (length packet at_most room) (taken packet) (refused Room) (taken given)
     (λ _. taken-same packet given)
-    (λ _. not-both (refused 9) 9 given refl)
+    (λ _. not-both (refused Room) Room given refl)
 
 -- a packet that the room alone decides on
 module _ (reply : Reply) (packet out : List ℕ) (e : reply ≡ within (length out) packet) where
-  pub lacks-room : length out < length packet → Settled reply out (Refused 9) out
-  lacks-room h = refuses reply out 9 (e ∙ no_room packet (length out) h)
+  pub lacks-room : length out < length packet → Settled reply out (refused Room) out
+  lacks-room h = refuses reply out Room (e ∙ no_room packet (length out) h)
 
   pub has_room : (left : List ℕ) (n : ℕ) → n ≡ length packet → length packet ≤ length out → left ≡ sets out 0 packet
-      → Settled reply out (Bytes n) left
+      → Settled reply out (taken n) left
   has_room left n l h s = writes reply out packet left n (e ∙ enough-room packet (length out) h) l h s
 
 -- what follows some checks is settled once they are passed

@@ -2,6 +2,7 @@
 -- Assumes nothing.
 use Rattle.std.specs.Prelude.{ℕ, List, [], ◌∷◌, not, length}
 use Rattle.wire.specs.Checks.{◌is◌, ◌at_most◌, Check, ◌else◌}
+use Rattle.wire.specs.declared.refusal.Refusal.TheVariants.{Empty, Overlong}
 
 -- the most bytes that a packet may have
 abbrev pub limit : ℕ
@@ -10,6 +11,6 @@ limit = 1472
 -- what is checked of any packet before its type
 abbrev pub opening : List ℕ → List Check
 opening d =
-    (not (length d is 0) else 1)
-    ∷ (length d at_most limit else 2)
+    (not (length d is 0) else Empty)
+    ∷ (length d at_most limit else Overlong)
     ∷ []

@@ -1,13 +1,6 @@
-// Lent output: what a writer answers, and copying into a place of it.
+// Lent output: copying into a place of it.
 ghost use Rattle.std.specs.Prelude.{◌≡◌, ◌+◌, ◌≤◌, length, take, drop};
 ghost use Rattle.std.proofs.lemmas.List.Edits.{sets};
-
-// What a writer answers: the refusal's number, or how many bytes it wrote.
-#[derive(Clone, Copy)]
-pub enum Written {
-    Refused(u8),
-    Bytes(usize),
-}
 
 // Copies len bytes of src, from its place `from` on, into out at its place `at`.
 pub fn copy(out: &mut [u8], at: usize, src: &[u8], from: usize, len: usize)

@@ -5,6 +5,7 @@ use mathlib.Core.Path.{◌≡◌, refl}
 use mathlib.Core.List.{List}
 use lib.ListN.{length}
 use Rattle.wire.specs.Checks.{◌is◌, Verdict, refused, taken, ◌into◌}
+use Rattle.wire.specs.declared.refusal.Refusal.TheVariants.{OtherSession}
 use Rattle.wire.proofs.Tests.{by-test}
 use Rattle.memx.specs.Packet as memx
 use Rattle.memx.specs.Read.{blocks_at, read}
@@ -21,13 +22,13 @@ use Rattle.reports.proofs.memx_report.Goals as goal
 -- what follows from the reader's answer
 abbrev reported_as : ℕ → Memx → Reported
 reported_as own (reading.Refused n) = reported.Refused n
-reported_as own (reading.Heartbeat session highest extra) = if session.0 is own then reported.News highest else reported.Refused 11
-reported_as own (reading.Shutdown session highest extra) = if session.0 is own then reported.End highest else reported.Refused 11
+reported_as own (reading.Heartbeat session highest extra) = if session.0 is own then reported.News highest else reported.Refused OtherSession
+reported_as own (reading.Shutdown session highest extra) = if session.0 is own then reported.End highest else reported.Refused OtherSession
 reported_as own (reading.Messages session first count extra) =
-    if session.0 is own then reported.Messages first count (20 + extra) else reported.Refused 11
+    if session.0 is own then reported.Messages first count (20 + extra) else reported.Refused OtherSession
 
 if-owned : (own session place : ℕ) (report : Report)
-    → reported_of place (owned own session report) ≡ (if session is own then reported_of place (taken report) else reported.Refused 11)
+    → reported_of place (owned own session report) ≡ (if session is own then reported_of place (taken report) else reported.Refused OtherSession)
 if-owned own session place report = by-test (session is own) (λ e. rw e) (λ e. rw e)
 
 by_answer : (own : ℕ) (d : List ℕ) (v : Verdict memx.Packet) → read d ≡ v

@@ -1,6 +1,7 @@
 -- `ufo_report` meets its contract: what the reader answers decides; `A` and `J` are not for the record.
 use mathlib.Core.Path.{◌≡◌, refl}
 use Rattle.wire.specs.Checks.{Verdict, refused, taken, ◌into◌}
+use Rattle.wire.specs.declared.refusal.Refusal.TheVariants.{NotForRecord}
 use Rattle.ufo.specs.Down as ufo
 use Rattle.ufo.specs.declared.down.Down.{Down}
 use Rattle.ufo.specs.declared.down.Down.TheVariants as down
@@ -13,8 +14,8 @@ use Rattle.reports.proofs.ufo_report.Goals as goal
 -- what follows from the reader's answer
 abbrev reported_as : Down → Reported
 reported_as (down.Refused n) = reported.Refused n
-reported_as (down.Accept session next) = reported.Refused 16
-reported_as (down.Reject reason) = reported.Refused 16
+reported_as (down.Accept session next) = reported.Refused NotForRecord
+reported_as (down.Reject reason) = reported.Refused NotForRecord
 reported_as (down.Messages first count) = reported.Messages first count 7
 reported_as (down.End total) = reported.End total
 

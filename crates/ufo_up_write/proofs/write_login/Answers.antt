@@ -12,6 +12,7 @@ use Rattle.wire.specs.declared.kinds.Name.{Name}
 use Rattle.wire.specs.declared.kinds.User.{User}
 use Rattle.names.specs.Names.{name_bytes, user_bytes}
 use Rattle.wire.specs.Reply.{within}
+use Rattle.wire.specs.declared.refusal.Refusal.TheVariants.{Absent}
 use Rattle.names.proofs.Packing.{length-name_bytes, length-user_bytes}
 use Rattle.wire.proofs.Settling.{refuses, writes}
 use Rattle.wire.proofs.Tests.{tests, held, failed}
@@ -43,7 +44,7 @@ module _ (user : User) (password session : Name) (room : ℕ) where
 
   -- once the texts are padded as they should be, the user is left to look at
   abbrev Padded : Type 0
-  Padded = reply lent room ≡ checked ((not (blank (user_bytes user)) else 6) ∷ []) (within room (frame (write_message lent)))
+  Padded = reply lent room ≡ checked ((not (blank (user_bytes user)) else Absent) ∷ []) (within room (frame (write_message lent)))
 
   -- and once the user is not blank, the room decides
   passed : blank (user_bytes user) ≡ false → Padded → reply lent room ≡ within room (frame (write_message lent))

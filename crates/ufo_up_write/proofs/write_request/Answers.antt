@@ -6,6 +6,7 @@ use lib.ListN.{length}
 use Rattle.wire.specs.Fields.{bytes_of}
 use Rattle.wire.specs.Checks.{◌else◌, checked}
 use Rattle.wire.specs.Reply.{within}
+use Rattle.wire.specs.declared.refusal.Refusal.TheVariants.{Bound}
 use Rattle.wire.proofs.Settling.{refuses, writes}
 use Rattle.wire.proofs.Tests.{tests}
 use Rattle.blocks.specs.Blocks.{frame}
@@ -21,7 +22,7 @@ use Rattle.ufo_up_write.proofs.write_request.Goals as goal
 -- the reply, by what is left to check
 replies : (s : Start) → let a = s.args in let m = request a.first.0 a.count in let room = length a.out.now in
     reply m room ≡ checked (left_t a.first.0 a.count)
-    (checked ((held a.first.0 else 7) ∷ []) (within room (frame (write_message m))))
+    (checked ((held a.first.0 else Bound) ∷ []) (within room (frame (write_message m))))
 replies s = let a = s.args in reply-request a.first.0 a.count (length a.out.now) (omega arith)
 
 pub returns-then-number-eq0 : goal.returns-then-number-eq0

@@ -12,6 +12,7 @@ use Rattle.wire.specs.Fields.{bytes_of}
 use Rattle.names.specs.Names.{name_bytes}
 use Rattle.wire.specs.declared.kinds.Name.{Name}
 use Rattle.wire.specs.Reply.{Reply, within}
+use Rattle.wire.specs.declared.refusal.Refusal.TheVariants.{Absent, Bound}
 use Rattle.names.proofs.Packing.{length-name_bytes}
 use Rattle.wire.proofs.Settling.{refuses, lacks-room, has_room}
 use Rattle.wire.proofs.Tests.{held, failed}
@@ -35,7 +36,7 @@ module _ (session : Name) (number room : ℕ) where
 
   -- the name is lawful: the number is left to check
   abbrev Named : Type 0
-  Named = replied ≡ checked ((not (number is 0) else 6) ∷ (number at_most 2 ^ 32 - 1 else 7) ∷ []) (within room (packet session number))
+  Named = replied ≡ checked ((not (number is 0) else Absent) ∷ (number at_most 2 ^ 32 - 1 else Bound) ∷ []) (within room (packet session number))
 
   -- nothing is refused but for want of room
   fits : Named → (number ≡ 0 → ⊥) → number ≤ 2 ^ 32 - 1 → replied ≡ within room (packet session number)

@@ -5,6 +5,7 @@ use mathlib.Core.List.{[], ◌∷◌}
 use mathlib.Core.Option.{Option, none, some}
 use lib.Ieee.{Float, le}
 use Rattle.wire.specs.Checks.{taken, ◌else◌, checked}
+use Rattle.wire.specs.declared.refusal.Refusal.TheVariants.{Broken, Range}
 use Rattle.clock.specs.Answer.{said_of}
 use Rattle.clock.specs.Patience.{wait_of, past, within_day}
 use Rattle.clock.specs.declared.answer.Said.{Said}
@@ -15,12 +16,12 @@ use Rattle.clock.proofs.patience.wait_over.Goals as goal
 
 abbrev says : Wait → Float → Said
 says (wait.Refused n) e = Refused n
-says wait.Never e = said_of (checked ((within_day e else 15) ∷ []) (taken false))
-says (wait.After w) e = said_of (checked ((within_day e else 15) ∷ []) (taken (le w e)))
+says wait.Never e = said_of (checked ((within_day e else Range) ∷ []) (taken false))
+says (wait.After w) e = said_of (checked ((within_day e else Range) ∷ []) (taken (le w e)))
 
 by-wait : (a b : Bool) (o : Option Float) (e : Float)
-    → said_of (checked ((a else 10) ∷ (b else 15) ∷ (within_day e else 15) ∷ []) (taken (past o e)))
-    ≡ says (wait_of (checked ((a else 10) ∷ (b else 15) ∷ []) (taken o))) e
+    → said_of (checked ((a else Broken) ∷ (b else Range) ∷ (within_day e else Range) ∷ []) (taken (past o e)))
+    ≡ says (wait_of (checked ((a else Broken) ∷ (b else Range) ∷ []) (taken o))) e
 by-wait false b o e = refl
 by-wait true false o e = refl
 by-wait true true none e = refl

@@ -4,6 +4,7 @@ use mathlib.Core.Bool.{Bool, true, false, ◌&&◌}
 use mathlib.Core.List.{[], ◌∷◌}
 use lib.Ieee.{Float}
 use Rattle.wire.specs.Checks.{Verdict, taken, ◌else◌, checked, ◌into◌}
+use Rattle.wire.specs.declared.refusal.Refusal.TheVariants.{Broken}
 use Rattle.asking.specs.Asking.{asking}
 use Rattle.flat.specs.Flag.{is_flag}
 use Rattle.flat_clock.specs.Waiting.{sheet_of, known_sheet, rule_of}
@@ -15,15 +16,15 @@ use Rattle.flat_record.proofs.requesting.ask.Goals as goal
 
 -- the record's bytes and the sheet's are looked at together
 both : {A B C : Type 0} (a b : Bool) (x : A) (y : B) (f : A → B → Verdict C)
-    → (checked ((a else 10) ∷ []) (taken x) into λ k. checked ((b else 10) ∷ []) (taken y) into λ s. f k s)
-    ≡ checked ((a && b else 10) ∷ []) (f x y)
+    → (checked ((a else Broken) ∷ []) (taken x) into λ k. checked ((b else Broken) ∷ []) (taken y) into λ s. f k s)
+    ≡ checked ((a && b else Broken) ∷ []) (f x y)
 both true true x y f = refl
 both true false x y f = refl
 both false b x y f = refl
 
 together : (r : FlatRecord) (s : FlatSheet) (p : FlatPatience) (elapsed : Float)
     → (known_record r into λ k. known_sheet s into λ t. asking k t (rule_of p) elapsed)
-    ≡ checked ((readable r && is_flag s.timed else 10) ∷ []) (asking (record_of r) (sheet_of s) (rule_of p) elapsed)
+    ≡ checked ((readable r && is_flag s.timed else Broken) ∷ []) (asking (record_of r) (sheet_of s) (rule_of p) elapsed)
 together r s p elapsed = both (readable r) (is_flag s.timed) (record_of r) (sheet_of s) (λ k t. asking k t (rule_of p) elapsed)
 
 pub returns-then-is_readable-is_flag : goal.returns-then-is_readable-is_flag

@@ -8,6 +8,7 @@ use native.Mathlib.Omega.{arith}
 use borrow.Author.Tests.{eq-eqb, ne_eqb}
 use lib.ListN.{length, drop, length-drop}
 use Rattle.wire.specs.Checks.{Verdict, taken, ◌else◌, checked}
+use Rattle.wire.specs.declared.refusal.Refusal.TheVariants.{Framing, Form, Absent}
 use Rattle.wire.proofs.Tests.{tests}
 use Rattle.memx_tcp.specs.Layout.{Field, lettered, numbered, fields_of, most_of, size}
 use Rattle.memx_tcp.specs.Packet.{Packet, header_size, each}
@@ -37,9 +38,9 @@ answers s p fixed start r e f g = rw (r, e, f, g, length-drop)
 abbrev left : List ℕ → Verdict Packet
 left s =
     checked
-    ((framed s else 4)
-    ∷ (each lettered (fields_in s) (packet_in s).values else 5)
-    ∷ (each numbered (fields_in s) (packet_in s).values else 6)
+    ((framed s else Framing)
+    ∷ (each lettered (fields_in s) (packet_in s).values else Form)
+    ∷ (each numbered (fields_in s) (packet_in s).values else Absent)
     ∷ []) (taken (packet_in s))
 
 opened : (c : Else-not-is_known) → read c.args.d.now ≡ left c.args.d.now

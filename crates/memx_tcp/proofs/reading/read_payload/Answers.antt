@@ -8,6 +8,7 @@ use native.Mathlib.Omega.{arith}
 use borrow.Author.Tests.{le-leb, ne_eqb}
 use lib.ListN.{length, length-drop}
 use Rattle.wire.specs.Checks.{◌is◌, refused}
+use Rattle.wire.specs.declared.refusal.Refusal.TheVariants.{Framing}
 use Rattle.wire.proofs.Tests.{one-of-fact}
 use Rattle.memx_tcp.specs.Layout.{known, fields_of, most_of, size}
 use Rattle.memx_tcp.specs.Packet.{header_size, limit, each}
@@ -26,7 +27,7 @@ unfolding known fields_of most_of
 bare k e = ⊎_elim (λ q. rw q (refl, refl, refl)) (λ q. rw q (refl, refl, refl)) (one-of-fact k 11 104 e)
 
 module _ (s : List ℕ) (some : 0 < length s) (short : length s ≤ limit) (k : (kind_in s is 11 || kind_in s is 104) ≡ true) where
-  refuses : false ≡ framed s → read s ≡ refused 4
+  refuses : false ≡ framed s → read s ≡ refused Framing
   unfolding read
   refuses f =
       let b = bare (kind_in s) k in

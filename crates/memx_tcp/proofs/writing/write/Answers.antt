@@ -8,6 +8,7 @@ use native.Mathlib.Omega.{arith}
 use borrow.Author.Tests.{le-leb, lt-leb}
 use lib.ListN.{length, set, length-set}
 use Rattle.wire.specs.Checks.{◌at_most◌, taken, ◌else◌, checked}
+use Rattle.wire.specs.declared.refusal.Refusal.TheVariants.{Framing, Form, Absent}
 use Rattle.wire.proofs.Settling.{refuses, lacks-room, has_room}
 use Rattle.memx_tcp.specs.Layout.{lettered, numbered, known, fields_of, most_of, size}
 use Rattle.memx_tcp.specs.Packet.{Packet, header_size, limit, write, Sized, each}
@@ -43,9 +44,9 @@ long c = let l = length-written (laid_out c) (sized c) in omega arith
 -- what is left to check where the type is known and the packet is not too long
 opened : (c : Start) → known c.args.p.kind ≡ true → bytes_in c ≤ limit → let q = laid_out c in let fs = fields_of q.kind in
     read (write q) ≡ checked
-    ((length q.tail at_most most_of q.kind else 4)
-    ∷ (each lettered fs q.values else 5)
-    ∷ (each numbered fs q.values else 6)
+    ((length q.tail at_most most_of q.kind else Framing)
+    ∷ (each lettered fs q.values else Form)
+    ∷ (each numbered fs q.values else Absent)
     ∷ []) (taken q)
 opened c typed small = rw (verdict c, le-leb (bytes_in c) limit small, typed)
 

@@ -6,6 +6,7 @@ use Rattle.blocks.proofs.Found.{Found, finds}
 use Prim.Native.Nat.{◌-◌}
 use lib.ListN.{take, drop}
 use Rattle.wire.specs.Checks.{Verdict, refused}
+use Rattle.wire.specs.declared.refusal.Refusal.TheVariants.{UnknownType}
 use Rattle.ufo_up.specs.Up.{Message, heartbeat, logout, read_message, message_at, up_of}
 use Rattle.ufo_up.specs.declared.up.Up.{Up}
 use Rattle.ufo_up.proofs.UpMessage.{of-kind, is_none, alone, none-at, empty-at, answers}
@@ -75,4 +76,4 @@ returns-in-79 c =
 pub returns-in_default : goal.returns-in_default
 returns-in_default c =
     let k = c.in_default.in_default-own.rest in
-    answered (goal.at.returns-in_default c).Else-length-eq0 _ (refused 3) refl (is_none _ k.0.0.0.0.1 k.0.0.0.1 k.0.0.1 k.0.1 k.1)
+    answered (goal.at.returns-in_default c).Else-length-eq0 _ (refused UnknownType) refl (is_none _ k.0.0.0.0.1 k.0.0.0.1 k.0.0.1 k.0.1 k.1)
