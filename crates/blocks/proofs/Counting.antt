@@ -10,7 +10,7 @@ use lib.ListN.{length, drop}
 use lib.Dec.{leb}
 use Rattle.wire.proofs.Tests.{both}
 use Rattle.blocks.specs.Blocks.{frames, rest, Cut, torn, whole, cut, is_whole, messages_of, count_of, fills}
-use Rattle.blocks.specs.declared.Count.TheVariants as count
+use Rattle.wire.specs.Checks.{taken}
 use Rattle.blocks.proofs.Frames.{length-frames}
 use Rattle.blocks.proofs.Cutting.{not-torn, stepped}
 
@@ -19,7 +19,7 @@ pub whole_is : (q : Cut) → is_whole q ≡ true → q ≡ whole (messages_of q)
 whole_is torn h = absurd (true≢false (sym h))
 whole_is (whole ms) h = refl
 
-pub whole-count : (q : Cut) (n : ℕ) → count_of q ≡ count.Blocks n → is_whole q ≡ true
+pub whole-count : (q : Cut) (n : ℕ) → count_of q ≡ taken n → is_whole q ≡ true
 whole-count torn n e = cc
 whole-count (whole ms) n e = refl
 

@@ -2,13 +2,15 @@
 -- Assumes nothing.
 use Prim.Native.Nat.{ℕ, zero, suc}
 use mathlib.Core.List.{List}
-use mathlib.Core.Path.{◌≡◌, ◌∙◌}
+use mathlib.Core.Path.{◌≡◌, refl, ◌∙◌}
 use mathlib.Core.Bool.{Bool, false}
 use native.Mathlib.Omega.{arith}
 use borrow.Author.Tests.{leb-true, leb-false, ne_eqb}
 use lib.Dec.{leb, eqb}
 use lib.ListN.{length}
+use Rattle.std.specs.Result.{result_eq}
 use Rattle.wire.specs.Checks.{Verdict, refused, taken}
+use Rattle.wire.specs.declared.refusal.Refusal.{Refusal}
 use Rattle.wire.proofs.Tests.{by-test}
 use Rattle.blocks.specs.Blocks.{fills, end_at, place_after}
 use Rattle.blocks.proofs.NextBlock.{fills-step, fills-torn, fills-end, place-step, place-torn, place_here, place-past}
@@ -17,6 +19,10 @@ use Rattle.blocks.proofs.NextBlock.{fills-step, fills-torn, fills-end, place-ste
 abbrev pub at_end : List ℕ → Verdict ℕ → Bool
 at_end s (refused n) = false
 at_end s (taken q) = eqb q (length s)
+
+pub is-the-end : (s : List ℕ) (same : Refusal → Refusal → Bool) (v : Verdict ℕ) → result_eq eqb same v (taken (length s)) ≡ at_end s v
+is-the-end s same (refused why) = refl
+is-the-end s same (taken q) = refl
 
 pub fills-by-place : (n : ℕ) (s : List ℕ) (p : ℕ) → fills s p n ≡ at_end s (place_after n s p)
 fills-by-place zero s p =

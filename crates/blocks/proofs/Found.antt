@@ -8,33 +8,32 @@ use lib.ListN.{length, take, drop}
 use lib.Seq.{drop-drop}
 use Rattle.wire.proofs.Width.{length_part}
 use Rattle.blocks.specs.Blocks.{stated, first, end_at, block_at}
-use Rattle.blocks.specs.declared.Block.TheVariants as block
-use Rattle.blocks.proofs.NextBlock.{found, block-fits}
+use Rattle.wire.specs.Checks.{taken}
+use Rattle.blocks.specs.declared.Block.{Block}
+use Rattle.blocks.proofs.NextBlock.{found}
 
-module _ (s : List ℕ) (p start size next : ℕ) where
+module _ (s : List ℕ) (p : ℕ) (b : Block) where
   -- its own bytes
   abbrev pub own : List ℕ
-  own = take (next - start) (drop start s)
+  own = take (b.next - b.start) (drop b.start s)
 
   pub record Found : Type 0 where
-    pub begins : start ≡ p + 2
-    pub states : size ≡ stated (drop p s)
-    pub ends : next ≡ end_at s p
-    pub inside : next ≤ length s
-    pub long : length own ≡ size
+    pub begins : b.start ≡ p + 2
+    pub states : b.length ≡ stated (drop p s)
+    pub ends : b.next ≡ end_at s p
+    pub inside : b.next ≤ length s
+    pub long : length own ≡ b.length
     pub same : own ≡ first (drop p s)
 
-  pub finds : block_at s p ≡ block.At start size next → Found
+  pub finds : block_at s p ≡ taken b → Found
   finds e =
-      let f = found s p start size next e in
-      let g = block-fits s p (stated (drop p s)) (end_at s p) refl refl f.2 in
-      let b : start ≡ p + 2 = cc (e, g) in
-      let t : next - start ≡ stated (drop p s) = omega arith in
+      let f = found s p b e in
+      let t : b.next - b.start ≡ stated (drop p s) = omega arith in
       record {
-        begins = b;
-        states = f.1;
-        ends = f.0;
+        begins = f.begins;
+        states = f.states;
+        ends = f.ends;
         inside = omega arith;
-        long = length_part start (next - start) s (omega arith) ∙ t ∙ sym f.1;
-        same = rw (t, b, drop-drop) refl;
+        long = length_part b.start (b.next - b.start) s (omega arith) ∙ t ∙ sym f.states;
+        same = rw (t, f.begins, drop-drop) refl;
       }

@@ -9,14 +9,14 @@ use borrow.Author.Tests.{leb-true, leb-false}
 use lib.ListN.{length, take, drop, get_or, length-drop}
 use lib.Seq.{drop_at}
 use lib.Dec.{leb}
-use Rattle.wire.specs.Checks.{Verdict, refused, taken}
+use Rattle.wire.specs.Checks.{taken}
+use Rattle.wire.specs.declared.refusal.Refusal.TheVariants.{Framing}
 use Rattle.wire.specs.Fields.{Bytes}
 use Rattle.wire.proofs.Tests.{by-test}
 use Rattle.wire.proofs.Checks.{not-both}
 use Rattle.wire.proofs.Width.{bytes_drop}
-use Rattle.blocks.specs.Blocks.{frame, frames, stated, first, torn, whole, cut, messages_of, end_at, place_after, place_of, Each}
+use Rattle.blocks.specs.Blocks.{frame, frames, stated, first, torn, whole, cut, messages_of, end_at, place_after, Each}
 use Rattle.blocks.specs.Blocks.{Short}
-use Rattle.blocks.specs.declared.Place.TheVariants as place
 use Rattle.blocks.proofs.NextBlock.{place-step, place-torn, place_here, place-past, rest_at}
 use Rattle.blocks.proofs.Frames.{length-frames, front-stated, length-first}
 use Rattle.blocks.proofs.Places.{each_at, placed, placed-next, frames-around}
@@ -92,20 +92,11 @@ place_inside zero s p q e =
     let h = leb-true p (length s) t in
     let same : p ≡ q = cc (place_here s p h) in
     rw same at h)
-    (λ t. not-both (place_after zero s p) 4 q (place-past s p (leb-false p (length s) t)) e)
+    (λ t. not-both (place_after zero s p) Framing q (place-past s p (leb-false p (length s) t)) e)
 place_inside (suc k) s p q e =
     by-test (leb (end_at s p) (length s))
     (λ t. place_inside k s (end_at s p) q (rw (place-step s p k (leb-true (end_at s p) (length s) t)) at e))
-    (λ t. not-both (place_after (suc k) s p) 4 q (place-torn s p k (leb-false (end_at s p) (length s) t)) e)
-
--- what the code's answer says of the place
-pub reached : (v : Verdict ℕ) (q : ℕ) → place_of v ≡ place.At q → v ≡ taken q
-reached (refused n) q e = cc
-reached (taken p) q e = cc
-
-pub not-reached : (v : Verdict ℕ) (n : ℕ) → place_of v ≡ place.Refused n → v ≡ refused n
-not-reached (refused m) n e = cc
-not-reached (taken p) n e = cc
+    (λ t. not-both (place_after (suc k) s p) Framing q (place-torn s p k (leb-false (end_at s p) (length s) t)) e)
 
 -- the block that was framed at a place
 module _ (a m t : List ℕ) (h : Short m) where

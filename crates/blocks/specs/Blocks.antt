@@ -6,11 +6,6 @@ use Rattle.wire.specs.Fields.{be, bytes_of}
 use Rattle.wire.specs.Checks.{◌is◌, ◌at_most◌, Verdict, refused, taken}
 use Rattle.wire.specs.declared.refusal.Refusal.TheVariants.{Framing}
 use Rattle.blocks.specs.declared.Block.{Block}
-use Rattle.blocks.specs.declared.Block.TheVariants as block
-use Rattle.blocks.specs.declared.Place.{Place}
-use Rattle.blocks.specs.declared.Place.TheVariants as place
-use Rattle.blocks.specs.declared.Count.{Count}
-use Rattle.blocks.specs.declared.Count.TheVariants as count
 
 -- a message as a block, and messages as blocks one after the other
 abbrev pub frame : List ℕ → List ℕ
@@ -73,21 +68,21 @@ abbrev pub messages_of : Cut → List (List ℕ)
 messages_of torn = []
 messages_of (whole ms) = ms
 
--- how many, or 4
-abbrev pub count_of : Cut → Count
-count_of torn = count.Refused Framing
-count_of (whole ms) = count.Blocks (length ms)
+-- how many
+abbrev pub count_of : Cut → Verdict ℕ
+count_of torn = refused Framing
+count_of (whole ms) = taken (length ms)
 
 -- the place where the block at p ends
 abbrev pub end_at : List ℕ → ℕ → ℕ
 end_at s p = p + 2 + stated (drop p s)
 
 -- the block at p, if all of it is there
-abbrev pub block_at : List ℕ → ℕ → Block
+abbrev pub block_at : List ℕ → ℕ → Verdict Block
 block_at s p =
     if end_at s p at_most length s
-    then block.At (p + 2) (stated (drop p s)) (end_at s p)
-    else block.Refused Framing
+    then taken (record { start = p + 2; length = stated (drop p s); next = end_at s p })
+    else refused Framing
 
 -- exactly n blocks stand from p to the very end; that is, the place after n of them is the end (`Filling.fills-by-place`)
 abbrev pub fills : List ℕ → ℕ → ℕ → Bool
@@ -97,10 +92,6 @@ fills s p n = p at_most length s && is_whole (cut n (drop p s))
 unfoldable pub place_after : ℕ → List ℕ → ℕ → Verdict ℕ
 place_after zero s p = if p at_most length s then taken p else refused Framing
 place_after (suc k) s p = if end_at s p at_most length s then place_after k s (end_at s p) else refused Framing
-
-abbrev pub place_of : Verdict ℕ → Place
-place_of (refused n) = place.Refused n
-place_of (taken p) = place.At p
 
 -- every message is so
 abbrev pub Each : (List ℕ → Type 0) → List (List ℕ) → Type 0

@@ -1,6 +1,7 @@
 -- What a list of checks says: what is taken has passed every one, what passes every one is taken, and a refusal stands.
 -- Assumes nothing.
-use Rattle.std.specs.Prelude.{if◌then◌else◌}
+use Rattle.std.specs.Prelude.{if◌then◌else◌, IsErrAnd}
+use Rattle.std.proofs.lemmas.Result.{err_from_is_err_and}
 use Prim.Native.Nat.{ℕ}
 use mathlib.Core.Path.{◌≡◌, refl}
 use mathlib.Core.List.{List, [], ◌∷◌}
@@ -16,6 +17,13 @@ not-both v why a p q = impossible cc
 
 pub taken-same : {A : Type 0} (a b : A) → ◌≡◌ {A = Verdict A} (taken a) (taken b) → a ≡ b
 taken-same a b e = cc
+
+pub refused-same : {A : Type 0} (m n : Refusal) → ◌≡◌ {A = Verdict A} (refused m) (refused n) → m ≡ n
+refused-same m n e = cc
+
+-- what `?` hands on is the same refusal
+pub passed-on : {A : Type 0} {why : Refusal} (r : Verdict A) → IsErrAnd r (λ e. e ≡ why) → r ≡ refused why
+passed-on r h = let p = err_from_is_err_and r h in rw (p.1, p.2)
 
 -- a choice that equals v has come from one of its arms
 pub chosen : {A : Type 0} {C : Type 0} (b : Bool) (x y v : Verdict A) → (b ≡ true → x ≡ v → C) → (b ≡ false → y ≡ v → C)

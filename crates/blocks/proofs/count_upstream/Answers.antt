@@ -1,55 +1,46 @@
 -- `count_upstream` meets its contract: at each turn the blocks counted, with those from the place on, are as many as from the start.
 use Prim.Native.Nat.{ℕ, ◌+◌}
-use mathlib.Core.Path.{◌≡◌, refl, sym, ◌∙◌}
+use mathlib.Core.Path.{◌≡◌, sym, ◌∙◌}
 use native.Mathlib.Omega.{arith}
-use mathlib.Core.List.{List}
-use Rattle.blocks.proofs.NextBlock.{Stands, found, missed, tally-step, tally-torn, tally-empty, tally-end, count-some}
+use Rattle.wire.proofs.Checks.{passed-on}
+use Rattle.blocks.proofs.NextBlock.{stands, missed, tally-step, tally-torn, tally-empty, tally-end, count-some}
 use Rattle.blocks.proofs.NextBlock.{count_none}
-use Rattle.blocks.proofs.count_upstream.Goals.{Else-length-eq0}
 use Rattle.blocks.proofs.count_upstream.Goals as goal
 
 no-sum : (n : ℕ) → n + 1 ≡ 0 → ⊥
 no-sum n e = omega arith
 
--- the slice, the turn, and the block that it found
-abbrev slice : Else-length-eq0 → List ℕ
-slice c = c.args.s.now
-
-step : (c : Else-length-eq0) → Stands (slice c) c.loop-at.at c.in-At.length c.in-At.next
-step c =
-    found (slice c) c.loop-at.at c.in-At.start c.in-At.length c.in-At.next (sym c.next.ensures ∙ c.in-At.is)
-
-pub loop-at-init : goal.loop-at-init
-loop-at-init c = (omega arith, omega arith, (λ _. refl), refl)
-
-pub returns-then-length-eq0 : goal.returns-then-length-eq0
-returns-then-length-eq0 c =
-    let s = c.args.s.now in
-    let f = found s c.loop-at.at c.in-At.start c.in-At.length c.in-At.next (sym c.next.ensures ∙ c.in-At.is) in
-    sym (count-some s (omega arith) ∙ c.loop-at.invariant.3
-    ∙ tally-empty s c.loop-at.at c.loop-at.count f.2 (sym f.1 ∙ c.if-length-eq0.true))
-
 pub overflow_add-count : goal.overflow_add-count
-overflow_add-count c = let f = step c in omega arith
+overflow_add-count c = let f = stands c.args.s.now c.loop-at.at c.next.ensures c.in_ok-block.was in let e = f.ends in let i = f.inside in omega arith
 
 pub loop-at-smaller : goal.loop-at-smaller
-loop-at-smaller c = let f = step c in omega arith
+loop-at-smaller c = let f = stands c.args.s.now c.loop-at.at c.next.ensures c.in_ok-block.was in let e = f.ends in let i = f.inside in omega arith
 
 pub loop-at-preserved : goal.loop-at-preserved
 loop-at-preserved c =
-    let s = slice c in
-    let f = step c in (
+    let s = c.args.s.now in
+    let f = stands c.args.s.now c.loop-at.at c.next.ensures c.in_ok-block.was in
+    let e = f.ends in
+    let i = f.inside in (
       omega arith,
       omega arith,
-      (λ e. absurd (no-sum c.loop-at.count e)),
-      rw f.0 (c.loop-at.invariant.3 ∙ tally-step s c.loop-at.at c.loop-at.count f.2 (λ z. c.if-length-eq0.false (f.1 ∙ z))),
+      (λ z. absurd (no-sum c.loop-at.count z)),
+      rw e (c.loop-at.invariant.3 ∙ tally-step s c.loop-at.at c.loop-at.count i (λ z. c.if-block-eq0.false (f.states ∙ z))),
     )
 
-pub returns-in-Refused : goal.returns-in-Refused
-returns-in-Refused c =
+pub returns-in_err-block : goal.returns-in_err-block
+returns-in_err-block c =
     let s = c.args.s.now in
-    let f = missed s c.loop-at.at c.in-Refused.n (sym c.next.ensures ∙ c.in-Refused.is) in
-    rw f.0 (sym (count-some s (omega arith) ∙ c.loop-at.invariant.3 ∙ tally-torn s c.loop-at.at c.loop-at.count (omega arith) f.1))
+    let f = missed s c.loop-at.at c.in_err-block.field-0.0 (sym c.next.ensures ∙ c.in_err-block.was) in
+    passed-on c.from_residual.result c.from_residual.ensures.1
+    ∙ rw f.0 (sym (count-some s (omega arith) ∙ c.loop-at.invariant.3 ∙ tally-torn s c.loop-at.at c.loop-at.count (omega arith) f.1))
+
+pub returns-then-block-eq0 : goal.returns-then-block-eq0
+returns-then-block-eq0 c =
+    let s = c.args.s.now in
+    let f = stands c.args.s.now c.loop-at.at c.next.ensures c.in_ok-block.was in
+    sym (count-some s (omega arith) ∙ c.loop-at.invariant.3
+    ∙ tally-empty s c.loop-at.at c.loop-at.count f.inside (sym f.states ∙ c.if-block-eq0.true))
 
 pub returns-then-count-eq0 : goal.returns-then-count-eq0
 returns-then-count-eq0 c =
