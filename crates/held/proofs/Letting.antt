@@ -14,21 +14,21 @@ use Rattle.held.specs.Hanging.{sound}
 use Rattle.held.specs.Releasing.{run, held_from, released, releasing, Settled}
 use Rattle.held.proofs.Bitmap.{none-full}
 use Rattle.held.proofs.Releases.{length-held, released-none}
-use Rattle.held.specs.declared.releasing.Released.TheVariants as gives
+use Rattle.wire.specs.Checks.{refused, taken}
 use Rattle.wire.specs.declared.refusal.Refusal.TheVariants.{Room, Broken}
 
 module _ (held : ℕ) (area : List ℕ) (m at : ℕ) (out : List ℕ) where
-  pub broken-area : sound held area ≡ false → Settled (releasing held area m at (length out)) at out (gives.Refused Broken) out
+  pub broken-area : sound held area ≡ false → Settled (releasing held area m at (length out)) at out (refused Broken) out
   broken-area e = rw e (record { answer = refl; bytes = refl })
 
   -- no room even for what stands before
-  pub no_room : sound held area ≡ true → length out < at → Settled (releasing held area m at (length out)) at out (gives.Refused Room) out
+  pub no_room : sound held area ≡ true → length out < at → Settled (releasing held area m at (length out)) at out (refused Room) out
   no_room e h = rw (e, lt-leb (at + length (frames (released held area m))) (length out) (omega arith))
       (record { answer = refl; bytes = refl })
 
   -- nothing is held
   pub nothing-goes : sound held area ≡ true → held ≡ 0 → at ≤ length out
-      → Settled (releasing held area m at (length out)) at out (gives.Messages 0 0) out
+      → Settled (releasing held area m at (length out)) at out (taken (record { messages = 0; bytes = 0 })) out
   unfolding frames
   nothing-goes e z h =
       let none : released held area m ≡ [] = released-none held area m (rw z (none-full (slot_of m))) in
@@ -36,13 +36,13 @@ module _ (held : ℕ) (area : List ℕ) (m at : ℕ) (out : List ℕ) where
 
   module _ (e : sound held area ≡ true) (k : ℕ) (q : k ≡ run 31 held m) where
     pub too-little : length out < at + length (frames (held_from k area m))
-        → Settled (releasing held area m at (length out)) at out (gives.Refused Room) out
+        → Settled (releasing held area m at (length out)) at out (refused Room) out
     too-little h = rw (e, lt-leb (at + length (frames (released held area m))) (length out) (rw q at h))
         (record { answer = refl; bytes = refl })
 
     pub lets_go : (bytes : ℕ) (left : List ℕ) → bytes ≡ length (frames (held_from k area m)) → at + bytes ≤ length out
         → left ≡ sets out at (frames (held_from k area m))
-        → Settled (releasing held area m at (length out)) at out (gives.Messages k bytes) left
+        → Settled (releasing held area m at (length out)) at out (taken (record { messages = k; bytes = bytes })) left
     lets_go bytes left b h l =
         rw (e, le-leb (at + length (frames (released held area m))) (length out) (rw (b, q) at h), b, l, q)
         (record { answer = rw (length-held (run 31 held m) area m); bytes = refl })

@@ -2,13 +2,12 @@
 -- Assumes nothing.
 use Rattle.std.specs.Prelude.{ℕ, zero, suc, ◌+◌, ◌≤◌, ◌<◌, ◌≡◌, List, [], ◌∷◌, length, if◌then◌else◌}
 use Rattle.std.proofs.lemmas.List.Edits.{sets}
-use Rattle.wire.specs.Checks.{◌at_most◌, Verdict, refused, taken, ◌else◌, checked}
+use Rattle.wire.specs.Checks.{◌at_most◌, Verdict, refused, taken, ◌else◌, checked, ◌told_by◌}
 use Rattle.wire.specs.declared.refusal.Refusal.TheVariants.{Room, Broken}
 use Rattle.blocks.specs.Blocks.{frames, stated}
 use Rattle.held.specs.Slots.{area_size, longest, slot_of, full, slot_at, held_message}
 use Rattle.held.specs.Hanging.{sound}
 use Rattle.held.specs.declared.releasing.Released.{Released}
-use Rattle.held.specs.declared.releasing.Released.TheVariants as gives
 
 -- how many of n slots, from that of message m on, are full one after another: Releases.run-full, run-stops
 unfoldable pub run : ℕ → (held m : ℕ) → ℕ
@@ -37,15 +36,15 @@ releasing held area m at room =
     ((sound held area else Broken) ∷ (at + length (frames (released held area m)) at_most room else Room) ∷ [])
     (taken (released held area m))
 
-abbrev pub released_of : Verdict (List (List ℕ)) → Released
-released_of (refused n) = gives.Refused n
-released_of (taken ms) = gives.Messages (length ms) (length (frames ms))
+-- how many messages that is, and how many bytes
+abbrev pub released_of : List (List ℕ) → Released
+released_of ms = record { messages = length ms; bytes = length (frames ms) }
 
 abbrev pub left_of : Verdict (List (List ℕ)) → (at : ℕ) → List ℕ → List ℕ
-left_of (refused n) at out = out
+left_of (refused why) at out = out
 left_of (taken ms) at out = sets out at (frames ms)
 
 -- the answer r and the bytes left are those of the verdict
-pub record Settled (verdict : Verdict (List (List ℕ))) (at : ℕ) (out : List ℕ) (r : Released) (left : List ℕ) : Type 0 where
-  pub answer : r ≡ released_of verdict
+pub record Settled (verdict : Verdict (List (List ℕ))) (at : ℕ) (out : List ℕ) (r : Verdict Released) (left : List ℕ) : Type 0 where
+  pub answer : r ≡ verdict told_by released_of
   pub bytes : left ≡ left_of verdict at out

@@ -9,10 +9,11 @@ use crate::slots;
 use wire::refusal::Refusal;
 use wire::{fields, output};
 
-#[derive(Clone, Copy)]
-pub enum Released {
-    Refused(Refusal),
-    Messages { messages: u32, bytes: usize },
+// What went out: so many messages, in so many bytes.
+#[derive(Clone, Copy, Debug, PartialEq, Eq)]
+pub struct Released {
+    pub messages: u32,
+    pub bytes: usize,
 }
 
 // How many messages are held one after another, from a number on.
@@ -65,27 +66,33 @@ fn lay(number: u64, messages: u32, area: &[u8], out: &mut [u8], at: usize)
 }
 
 // The blocks of the messages held from a number on, laid into the output from a place on.
-pub fn release(held: u32, number: u64, area: &[u8], out: &mut [u8], at: usize) -> Released
+pub fn release(
+    held: u32,
+    number: u64,
+    area: &[u8],
+    out: &mut [u8],
+    at: usize,
+) -> Result<Released, Refusal>
     ensures { Settled (releasing held area.now number at (length out.old))
         at out.old result out.new }
 {
     if !is_sound(held, area) {
-        return Released::Refused(Refusal::Broken);
+        return Err(Refusal::Broken);
     }
     if out.len() < at {
-        return Released::Refused(Refusal::Room);
+        return Err(Refusal::Room);
     }
     if held == 0 {
-        return Released::Messages {
+        return Ok(Released {
             messages: 0,
             bytes: 0,
-        };
+        });
     }
     let messages = run(held, number);
     let bytes = size(number, messages, area);
     if out.len() - at < bytes {
-        return Released::Refused(Refusal::Room);
+        return Err(Refusal::Room);
     }
     lay(number, messages, area, out, at);
-    Released::Messages { messages, bytes }
+    Ok(Released { messages, bytes })
 }
