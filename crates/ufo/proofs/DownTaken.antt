@@ -25,5 +25,5 @@ came d p e =
     let by-type = came-by k 65 (checks_a d) _ p _ by-A
     (came-by k 74 (checks_j d) _ p _ by-J
     (came-by k 83 (checks_s d) _ p _ by-S
-    (came-by k 69 (checks_e d) _ p _ by-E (not-both (refused UnknownType) 3 p refl)))) in
+    (came-by k 69 (checks_e d) _ p _ by-E (not-both (refused UnknownType) UnknownType p refl)))) in
     (c.0, by-type c.1)

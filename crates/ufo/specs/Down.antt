@@ -10,7 +10,7 @@ use Rattle.names.specs.Names.{name_of}
 use Rattle.text.specs.Text.{blank, text_then_spaces}
 use Rattle.blocks.specs.Blocks.{frames, Cut, cut, is_whole, messages_of, Each}
 use Rattle.ufo.specs.declared.down.Down.{Down}
-use Rattle.ufo.specs.declared.down.Down.TheVariants.{Refused, Accept, Reject, Messages, End}
+use Rattle.ufo.specs.declared.down.Down.TheVariants.{Accept, Reject, Messages, End}
 
 -- no messages at all are a heartbeat: its number is the next to be sent
 pub data Packet : Type 0 where
@@ -124,10 +124,9 @@ by_kind d =
 unfoldable pub read : List ℕ → Verdict Packet
 read d = checked (opening d) (by_kind d)
 
--- the reader's answer: the refusal's number, or the packet's fields, its name packed and its messages counted
-abbrev pub down_of : Verdict Packet → Down
-down_of (refused n) = Refused n
-down_of (taken (accept session next)) = Accept (name_of session) (record { 0 = next })
-down_of (taken (reject reason)) = Reject reason
-down_of (taken (messages first ms)) = Messages (record { 0 = first }) (length ms)
-down_of (taken (end total)) = End (record { 0 = total })
+-- what was taken, as the reader tells it: the packet's fields, its name packed and its messages counted
+abbrev pub down_of : Packet → Down
+down_of (accept session next) = Accept (name_of session) (record { 0 = next })
+down_of (reject reason) = Reject reason
+down_of (messages first ms) = Messages (record { 0 = first }) (length ms)
+down_of (end total) = End (record { 0 = total })
