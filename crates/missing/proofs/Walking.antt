@@ -4,6 +4,9 @@ use Prim.Native.Nat.{ℕ, zero, suc, ◌+◌, ◌-◌, ◌≤◌, ◌<◌}
 use mathlib.Core.Path.{◌≡◌, refl, sym, ◌∙◌}
 use mathlib.Core.List.{List, [], ◌∷◌}
 use mathlib.Core.Bool.{Bool, true≢false}
+use Rattle.std.specs.Prelude.{slice_get}
+use Rattle.std.specs.Option.{unwrap_or}
+use Rattle.std.proofs.lemmas.Option.{unwrap_or-slice_get}
 use native.Mathlib.Omega.{arith}
 use Rattle.missing.specs.Missing.{is_held, ◌to◌, ranges, missing, ◌at◌}
 use Rattle.missing.specs.Runs.{LastOf, PastHeld}
@@ -69,6 +72,10 @@ module _ (held next top : ℕ) where
   unfolding missing ranges
   none-missing h = let e : top + 1 - next ≡ 0 = omega arith in rw e
 
-pub at-later : (r : Range) (rs : List Range) (place : ℕ) → ((place ≡ 0) → ⊥) → (r ∷ rs) at place ≡ rs at (place - 1)
+pub at-later : (r : Range) (rs : List Range) (place : ℕ) → ((place ≡ 0) → ⊥) → slice_get (r ∷ rs) place ≡ slice_get rs (place - 1)
 at-later r rs zero h = absurd (h refl)
 at-later r rs (suc n) h = let e : suc n - 1 ≡ n = omega arith in rw e
+
+-- a range that is there, or noughts where there is none
+pub at-or-noughts : (rs : List Range) (place : ℕ) → unwrap_or (slice_get rs place) (0 to 0) ≡ rs at place
+at-or-noughts rs place = unwrap_or-slice_get rs place (0 to 0)

@@ -1,8 +1,8 @@
 // What is missing: the ranges of the numbers from N to T that are not held. Numbers are counted from N here, since N+31 may not fit.
 #![tactic(auto)]
 
-ghost use Rattle.std.specs.Prelude.{◌≡◌, false, ◌+◌, ◌≤◌, length};
-ghost use Rattle.missing.specs.Missing.{is_held, missing, ◌at◌};
+ghost use Rattle.std.specs.Prelude.{◌≡◌, false, ◌+◌, ◌≤◌, length, slice_get};
+ghost use Rattle.missing.specs.Missing.{is_held, missing};
 ghost use Rattle.missing.specs.Runs.{LastOf, PastHeld};
 
 use held::slots;
@@ -73,16 +73,12 @@ pub fn count(held: u32, next: u64, top: u64) -> u8
     ranges
 }
 
-// The range at a place, counted from 0; noughts where there is none.
-pub fn at(held: u32, next: u64, top: u64, place: u64) -> Range
-    ensures { result ≡ missing held next top at place }
+// The range at a place, counted from 0.
+pub fn at(held: u32, next: u64, top: u64, place: u64) -> Option<Range>
+    ensures { result ≡ slice_get (missing held next top) place }
 {
-    let none = Range {
-        first: Sequence(0),
-        last: Sequence(0),
-    };
     if top < next {
-        return none;
+        return None;
     }
     let reach = top - next;
     let mut left = place;
@@ -90,16 +86,16 @@ pub fn at(held: u32, next: u64, top: u64, place: u64) -> Range
     while first <= reach {
         let last = last_of(held, next, reach, first);
         if left == 0 {
-            return Range {
+            return Some(Range {
                 first: Sequence(next + first),
                 last: Sequence(next + last),
-            };
+            });
         }
         if last == reach {
-            return none;
+            return None;
         }
         left -= 1;
         first = past_held(held, next, last + 1);
     }
-    none
+    None
 }
