@@ -55,7 +55,12 @@ pub fn write_reject(reason: u8, out: &mut [u8]) -> Result<usize, Refusal>
 }
 
 // The blocks are lent as they are to stand; none, with the count 0, is a heartbeat.
-pub fn write_messages(first: Sequence, count: u16, blocks: &[u8], out: &mut [u8]) -> Result<usize, Refusal>
+pub fn write_messages(
+    first: Sequence,
+    count: u16,
+    blocks: &[u8],
+    out: &mut [u8],
+) -> Result<usize, Refusal>
     ensures { Settled (messages_reply first.0 count blocks.now (length out.old))
         out.old result out.new }
 {

@@ -12,7 +12,7 @@ use Rattle.wire.specs.declared.kinds.Name.{Name}
 use Rattle.wire.specs.declared.kinds.User.{User}
 use Rattle.names.specs.Names.{name_bytes, user_bytes}
 use Rattle.wire.specs.Reply.{within}
-use Rattle.wire.specs.declared.refusal.Refusal.TheVariants.{Absent}
+use Rattle.wire.specs.declared.refusal.Refusal.TheVariants.{Form, Absent, Room}
 use Rattle.names.proofs.Packing.{length-name_bytes, length-user_bytes}
 use Rattle.wire.proofs.Settling.{refuses, writes}
 use Rattle.wire.proofs.Tests.{tests, held, failed}
@@ -61,26 +61,26 @@ padded c =
 
 pub returns-then-not-is_user_then_spaces : goal.returns-then-not-is_user_then_spaces
 returns-then-not-is_user_then_spaces c =
-    refuses _ _ 5 (replies c.args.user c.args.password.0 c.args.session (length c.args.out.now) ∙ rw
+    refuses _ _ Form (replies c.args.user c.args.password.0 c.args.session (length c.args.out.now) ∙ rw
     (failed c.is_user_then_spaces.ensures c.if-not-is_user_then_spaces.true-raw))
 
 pub returns-then-not-is_name_then_spaces : goal.returns-then-not-is_name_then_spaces
 returns-then-not-is_name_then_spaces c =
-    refuses _ _ 5 (replies c.args.user c.args.password.0 c.args.session (length c.args.out.now) ∙ rw (
+    refuses _ _ Form (replies c.args.user c.args.password.0 c.args.session (length c.args.out.now) ∙ rw (
       held c.is_user_then_spaces.ensures c.if-not-is_user_then_spaces.false-raw,
       failed c.is_name_then_spaces.ensures c.if-not-is_name_then_spaces.true-raw,
     ))
 
 pub returns-then-not-is_name_then_spaces-2 : goal.returns-then-not-is_name_then_spaces-2
 returns-then-not-is_name_then_spaces-2 c =
-    refuses _ _ 5 (replies c.args.user c.args.password.0 c.args.session (length c.args.out.now) ∙ rw (
+    refuses _ _ Form (replies c.args.user c.args.password.0 c.args.session (length c.args.out.now) ∙ rw (
       held c.is_user_then_spaces.ensures c.if-not-is_user_then_spaces.false-raw,
       held c.is_name_then_spaces.ensures c.if-not-is_name_then_spaces.false-raw,
       failed c.is_name_then_spaces-2.ensures c.if-not-is_name_then_spaces-2.true-raw,
     ))
 
 pub returns-then-is_blank_user : goal.returns-then-is_blank_user
-returns-then-is_blank_user c = refuses _ _ 6 (padded (goal.at.returns-then-is_blank_user c).Else-not-is_name_then_spaces-2 ∙ rw (
+returns-then-is_blank_user c = refuses _ _ Absent (padded (goal.at.returns-then-is_blank_user c).Else-not-is_name_then_spaces-2 ∙ rw (
   ← c.is_blank_user.ensures,
   c.if-is_blank_user.true,
 ))
@@ -91,7 +91,7 @@ returns-then-out-lt29 c =
     let a = c.args in
     let at = goal.at.returns-then-out-lt29 c in
     let b = sym c.is_blank_user.ensures ∙ c.if-is_blank_user.false in
-    refuses _ _ 9 (passed a.user a.password.0 a.session (length a.out.now) b (padded at.Else-not-is_name_then_spaces-2) ∙ search tests)
+    refuses _ _ Room (passed a.user a.password.0 a.session (length a.out.now) b (padded at.Else-not-is_name_then_spaces-2) ∙ search tests)
 
 pub returns : goal.returns
 unfolding bytes_of

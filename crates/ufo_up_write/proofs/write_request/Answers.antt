@@ -6,7 +6,7 @@ use lib.ListN.{length}
 use Rattle.wire.specs.Fields.{bytes_of}
 use Rattle.wire.specs.Checks.{◌else◌, checked}
 use Rattle.wire.specs.Reply.{within}
-use Rattle.wire.specs.declared.refusal.Refusal.TheVariants.{Bound}
+use Rattle.wire.specs.declared.refusal.Refusal.TheVariants.{Absent, Bound, Room}
 use Rattle.wire.proofs.Settling.{refuses, writes}
 use Rattle.wire.proofs.Tests.{tests}
 use Rattle.blocks.specs.Blocks.{frame}
@@ -26,17 +26,17 @@ replies : (s : Start) → let a = s.args in let m = request a.first.0 a.count in
 replies s = let a = s.args in reply-request a.first.0 a.count (length a.out.now) (omega arith)
 
 pub returns-then-number-eq0 : goal.returns-then-number-eq0
-returns-then-number-eq0 c = refuses _ _ 6 (replies (goal.at.returns-then-number-eq0 c).Start ∙ search tests)
+returns-then-number-eq0 c = refuses _ _ Absent (replies (goal.at.returns-then-number-eq0 c).Start ∙ search tests)
 
 pub returns-then-count-eq0 : goal.returns-then-count-eq0
-returns-then-count-eq0 c = refuses _ _ 6 (replies (goal.at.returns-then-count-eq0 c).Start ∙ search tests)
+returns-then-count-eq0 c = refuses _ _ Absent (replies (goal.at.returns-then-count-eq0 c).Start ∙ search tests)
 
 pub returns-then-number-gt-HIGHEST : goal.returns-then-number-gt-HIGHEST
-returns-then-number-gt-HIGHEST c = refuses _ _ 7 (replies (goal.at.returns-then-number-gt-HIGHEST c).Start ∙ search tests)
+returns-then-number-gt-HIGHEST c = refuses _ _ Bound (replies (goal.at.returns-then-number-gt-HIGHEST c).Start ∙ search tests)
 
 pub returns-then-out-lt9 : goal.returns-then-out-lt9
 unfolding bytes_of
-returns-then-out-lt9 c = refuses _ _ 9 (replies (goal.at.returns-then-out-lt9 c).Start ∙ search tests)
+returns-then-out-lt9 c = refuses _ _ Room (replies (goal.at.returns-then-out-lt9 c).Start ∙ search tests)
 
 pub returns : goal.returns
 unfolding bytes_of

@@ -4,6 +4,7 @@ use mathlib.Core.List.{◌∷◌}
 use native.Mathlib.Omega.{arith}
 use lib.ListN.{length}
 use lib.Seq.{take-length}
+use Rattle.wire.specs.declared.refusal.Refusal.TheVariants.{Overlong}
 use Rattle.wire.proofs.Settling.{refuses, lacks-room, has_room}
 use Rattle.wire.proofs.Tests.{tests}
 use Rattle.blocks.specs.Blocks.{frame}
@@ -13,7 +14,7 @@ use Rattle.ufo_up_write.proofs.UpLaid.{laid-unsequenced}
 use Rattle.ufo_up_write.proofs.write_unsequenced.Goals as goal
 
 pub returns-then-size-gt-DATA : goal.returns-then-size-gt-DATA
-returns-then-size-gt-DATA c = refuses _ _ 2 (reply-unsequenced _ _ ∙ search tests)
+returns-then-size-gt-DATA c = refuses _ _ Overlong (reply-unsequenced _ _ ∙ search tests)
 
 pub returns-then-out-size : goal.returns-then-out-size
 returns-then-out-size c =

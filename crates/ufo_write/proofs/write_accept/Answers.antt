@@ -12,7 +12,7 @@ use Rattle.wire.specs.Fields.{bytes_of}
 use Rattle.names.specs.Names.{name_bytes}
 use Rattle.wire.specs.declared.kinds.Name.{Name}
 use Rattle.wire.specs.Reply.{Reply, within}
-use Rattle.wire.specs.declared.refusal.Refusal.TheVariants.{Absent, Bound}
+use Rattle.wire.specs.declared.refusal.Refusal.TheVariants.{Form, Absent, Bound}
 use Rattle.names.proofs.Packing.{length-name_bytes}
 use Rattle.wire.proofs.Settling.{refuses, lacks-room, has_room}
 use Rattle.wire.proofs.Tests.{held, failed}
@@ -49,16 +49,16 @@ named c =
 
 pub returns-then-not-is_name_then_spaces : goal.returns-then-not-is_name_then_spaces
 returns-then-not-is_name_then_spaces c =
-    refuses _ _ 5 (replies c.args.session c.args.next.0 (length c.args.out.now)
+    refuses _ _ Form (replies c.args.session c.args.next.0 (length c.args.out.now)
     ∙ rw (failed c.is_name_then_spaces.ensures c.if-not-is_name_then_spaces.true-raw))
 
 pub returns-then-is_blank_name : goal.returns-then-is_blank_name
 returns-then-is_blank_name c =
-    refuses _ _ 6 (replies c.args.session c.args.next.0 (length c.args.out.now)
+    refuses _ _ Absent (replies c.args.session c.args.next.0 (length c.args.out.now)
     ∙ rw (held c.is_name_then_spaces.ensures c.if-not-is_name_then_spaces.false-raw, ← c.is_blank_name.ensures, c.if-is_blank_name.true))
 
 pub returns-then-number-eq0 : goal.returns-then-number-eq0
-returns-then-number-eq0 c = rw (named (goal.at.returns-then-number-eq0 c).Else-is_blank_name, c.if-number-eq0.true) (refuses _ _ 6 refl)
+returns-then-number-eq0 c = rw (named (goal.at.returns-then-number-eq0 c).Else-is_blank_name, c.if-number-eq0.true) (refuses _ _ Absent refl)
 
 pub returns-then-number-gt-HIGHEST : goal.returns-then-number-gt-HIGHEST
 returns-then-number-gt-HIGHEST c =
@@ -66,7 +66,7 @@ returns-then-number-gt-HIGHEST c =
       named (goal.at.returns-then-number-gt-HIGHEST c).Else-is_blank_name,
       ne_eqb c.args.next.0 0 c.if-number-eq0.false,
       lt-leb c.args.next.0 (2 ^ 32 - 1) c.if-number-gt-HIGHEST.true,
-    ) (refuses _ _ 7 refl)
+    ) (refuses _ _ Bound refl)
 
 pub returns-then-out-lt15 : goal.returns-then-out-lt15
 unfolding bytes_of

@@ -5,6 +5,7 @@ use borrow.Author.Tests.{le-leb, lt-leb}
 use lib.ListN.{length, length-set}
 use native.Mathlib.Omega.{arith}
 use Rattle.wire.specs.Fields.{bytes_of}
+use Rattle.wire.specs.declared.refusal.Refusal.TheVariants.{Bound, Room}
 use Rattle.wire.proofs.Settling.{refuses, writes}
 use Rattle.ufo.specs.Down.{write, end}
 use Rattle.ufo_write.proofs.DownReplies.{end-reply}
@@ -12,13 +13,13 @@ use Rattle.ufo_write.proofs.write_end.Goals as goal
 
 pub returns-then-number-ge-HIGHEST : goal.returns-then-number-ge-HIGHEST
 returns-then-number-ge-HIGHEST c =
-    rw (end-reply, lt-leb c.args.total.0 (2 ^ 32 - 2) (omega arith)) (refuses _ _ 7 refl)
+    rw (end-reply, lt-leb c.args.total.0 (2 ^ 32 - 2) (omega arith)) (refuses _ _ Bound refl)
 
 pub returns-then-out-lt5 : goal.returns-then-out-lt5
 unfolding bytes_of
 returns-then-out-lt5 c =
     let a = c.args in
-    rw (end-reply, le-leb a.total.0 (2 ^ 32 - 2) (omega arith), lt-leb 5 (length a.out.now) c.if-out-lt5.true) (refuses _ _ 9 refl)
+    rw (end-reply, le-leb a.total.0 (2 ^ 32 - 2) (omega arith), lt-leb 5 (length a.out.now) c.if-out-lt5.true) (refuses _ _ Room refl)
 
 pub put4-requires : goal.put4-requires
 put4-requires c = simp length-set (omega arith)

@@ -11,7 +11,7 @@ use native.Mathlib.Omega.{arith}
 use Rattle.wire.specs.Checks.{◌is◌, ◌at_most◌, ◌else◌, checked}
 use Rattle.wire.specs.Reply.{Reply, within}
 use Rattle.wire.specs.Datagram.{limit}
-use Rattle.wire.specs.declared.refusal.Refusal.TheVariants.{Absent, Bound}
+use Rattle.wire.specs.declared.refusal.Refusal.TheVariants.{Overlong, Framing, Absent, Bound}
 use Rattle.wire.proofs.Settling.{refuses, lacks-room, has_room}
 use Rattle.blocks.specs.Blocks.{cut, is_whole}
 use Rattle.blocks.proofs.Counting.{fills-says}
@@ -55,7 +55,7 @@ pub returns-then-size-gt-LIMIT : goal.returns-then-size-gt-LIMIT
 returns-then-size-gt-LIMIT c =
     let a = c.args in
     let k : a.count < 2 ^ 16 = omega arith in
-    rw (messages-reply, lt-leb (7 + length a.blocks.now) limit c.if-size-gt-LIMIT.true) (refuses _ _ 2 refl)
+    rw (messages-reply, lt-leb (7 + length a.blocks.now) limit c.if-size-gt-LIMIT.true) (refuses _ _ Overlong refl)
 
 pub returns-then-not-exactly : goal.returns-then-not-exactly
 returns-then-not-exactly c =
@@ -66,13 +66,13 @@ returns-then-not-exactly c =
       le-leb (7 + length a.blocks.now) limit (omega (arith, c.if-size-gt-LIMIT.false)),
       found (goal.at.returns-then-not-exactly c).After-exactly,
       not-true c.exactly.result c.if-not-exactly.true-raw,
-    ) (refuses _ _ 4 refl)
+    ) (refuses _ _ Framing refl)
 
 pub returns-then-number-eq0 : goal.returns-then-number-eq0
 returns-then-number-eq0 c = rw (
   filled (goal.at.returns-then-number-eq0 c).Else-not-exactly (found (goal.at.returns-then-number-eq0 c).After-exactly),
   c.if-number-eq0.true,
-) (refuses _ _ 6 refl)
+) (refuses _ _ Absent refl)
 
 pub returns-then-count-number : goal.returns-then-count-number
 returns-then-count-number c =
@@ -81,7 +81,7 @@ returns-then-count-number c =
       filled (goal.at.returns-then-count-number c).Else-not-exactly (found (goal.at.returns-then-count-number c).After-exactly),
       ne_eqb a.first.0 0 c.if-number-eq0.false,
       lt-leb (a.first.0 + a.count) (2 ^ 32 - 1) (omega arith),
-    ) (refuses _ _ 7 refl)
+    ) (refuses _ _ Bound refl)
 
 pub returns-then-out-size : goal.returns-then-out-size
 returns-then-out-size c =

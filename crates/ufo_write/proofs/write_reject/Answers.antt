@@ -4,6 +4,7 @@ use borrow.Author.Tests.{le-leb, lt-leb}
 use lib.ListN.{length, length-set}
 use native.Mathlib.Omega.{arith}
 use Rattle.wire.proofs.Tests.{one-of-test, one-of-fails}
+use Rattle.wire.specs.declared.refusal.Refusal.TheVariants.{Form, Room}
 use Rattle.wire.proofs.Settling.{refuses, writes}
 use Rattle.ufo.specs.Down.{write, reject}
 use Rattle.ufo_write.proofs.DownReplies.{reject-reply}
@@ -13,7 +14,7 @@ pub returns-then-out-lt2 : goal.returns-then-out-lt2
 returns-then-out-lt2 c =
     let a = c.args in
     rw (reject-reply, one-of-test a.reason 65 83 c.in-65.is, lt-leb 2 (length a.out.now) c.if-out-lt2.true)
-    (refuses _ _ 9 refl)
+    (refuses _ _ Room refl)
 
 pub bounds-out-1 : goal.bounds-out-1
 bounds-out-1 c = simp length-set (omega arith)
@@ -29,4 +30,4 @@ returns-else-out-lt2 c =
 
 pub returns-in_default : goal.returns-in_default
 returns-in_default c =
-    rw (reject-reply, one-of-fails c.args.reason 65 83 c.in_default.in_default-own.rest.1) (refuses _ _ 5 refl)
+    rw (reject-reply, one-of-fails c.args.reason 65 83 c.in_default.in_default-own.rest.1) (refuses _ _ Form refl)
