@@ -3,13 +3,13 @@
 use Rattle.std.specs.Prelude.{ℕ}
 use Rattle.blocks.specs.Blocks.{block_at}
 use Rattle.blocks.specs.declared.Block.{Block}
-use Rattle.blocks.specs.declared.Block.TheVariants as block
+use Rattle.wire.specs.Checks.{Verdict, refused, taken}
 use Rattle.walker.specs.declared.Walker.{Walker}
 
 -- the place after the block that was found at p; at a refusal that is p itself
-abbrev pub after : Block → ℕ → ℕ
-after (block.Refused n) p = p
-after (block.At start length next) p = next
+abbrev pub after : Verdict Block → ℕ → ℕ
+after (refused why) p = p
+after (taken block) p = block.next
 
 -- the same datagram, at that place
 abbrev pub moved : Walker → Walker
