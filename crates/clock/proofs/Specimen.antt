@@ -1,8 +1,8 @@
 -- The specimen book's samples, 100, 60 and 95, worked out: mean 100, 95, 95; spread 50, 47.5, 35.625; waits 300, 285, 237.5.
 -- Assumes nothing.
+use Rattle.std.specs.Prelude.{Some}
 use mathlib.Core.Path.{◌≡◌, refl}
 use mathlib.Core.Bool.{true, false}
-use mathlib.Core.Option.{some}
 use lib.Ieee.{Float, round, add, sub, mul, div, neg, le, lt}
 use Rattle.wire.specs.Checks.{taken}
 use Rattle.clock.specs.Milliseconds.{decimal, whole}
@@ -35,7 +35,7 @@ samples = (refl, refl, refl)
 abbrev wide : Patience
 wide = Measured (whole 1) (whole 60000)
 
-pub waits : (waiting first wide ≡ taken (some (whole 300))) × (waiting second wide ≡ taken (some (whole 285)))
-    × (waiting third wide ≡ taken (some (decimal 2375 10)))
+pub waits : (waiting first wide ≡ taken (Some (whole 300))) × (waiting second wide ≡ taken (Some (whole 285)))
+    × (waiting third wide ≡ taken (Some (decimal 2375 10)))
 unfolding add mul le lt round
 waits = (refl, refl, refl)

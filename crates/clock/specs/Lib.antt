@@ -1,4 +1,3 @@
 pub mod Milliseconds
-pub mod Answer
 pub mod Sheet
 pub mod Patience

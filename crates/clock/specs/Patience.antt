@@ -1,18 +1,15 @@
 -- How long to wait under each rule, and whether the wait is over.
 -- Assumes nothing.
-use Rattle.std.specs.Prelude.{List, [], ◌∷◌, Bool, true, false, ◌&&◌, Float, if◌then◌else◌}
-use Rattle.std.proofs.Math.Option.{Option, none, some}
+use Rattle.std.specs.Prelude.{List, [], ◌∷◌, Bool, true, false, ◌&&◌, Float, if◌then◌else◌, Option, None, Some}
 use Rattle.std.specs.Float.{binary64}
 use Rattle.std.specs.Float.Ieee.{add, mul, le, lt}
-use Rattle.wire.specs.Checks.{Verdict, refused, taken, Check, ◌else◌, checked}
+use Rattle.wire.specs.Checks.{Verdict, taken, Check, ◌else◌, checked}
 use Rattle.wire.specs.declared.refusal.Refusal.TheVariants.{Broken, Range}
 use Rattle.clock.specs.Milliseconds.{whole, between}
 use Rattle.clock.specs.Sheet.{sound}
 use Rattle.clock.specs.declared.sheet.Sheet.{Sheet}
 use Rattle.clock.specs.declared.patience.Patience.{Patience}
 use Rattle.clock.specs.declared.patience.Patience.TheVariants.{Never, Fixed, Measured}
-use Rattle.clock.specs.declared.patience.Wait.{Wait}
-use Rattle.clock.specs.declared.patience.Wait.TheVariants as wait
 
 -- the rule is in range
 abbrev pub in_range : Patience → Bool
@@ -28,22 +25,17 @@ clamped floor ceiling w = if lt w floor then floor else if lt ceiling w then cei
 
 -- the rule's wait, if it has one; a measured one lies between floor and ceiling (`Waits.wait-between`)
 abbrev pub wait_under : Sheet → Patience → Option Float
-wait_under s Never = none
-wait_under s (Fixed w) = some w
-wait_under s (Measured floor ceiling) = some (clamped floor ceiling (measured s))
+wait_under s Never = None
+wait_under s (Fixed w) = Some w
+wait_under s (Measured floor ceiling) = Some (clamped floor ceiling (measured s))
 
 abbrev pub waiting : Sheet → Patience → Verdict (Option Float)
 waiting s p = checked ((sound s else Broken) ∷ (in_range p else Range) ∷ []) (taken (wait_under s p))
 
-abbrev pub wait_of : Verdict (Option Float) → Wait
-wait_of (refused n) = wait.Refused n
-wait_of (taken none) = wait.Never
-wait_of (taken (some w)) = wait.After w
-
 -- the rule has a wait, and elapsed is at least that wait
 abbrev pub past : Option Float → Float → Bool
-past none elapsed = false
-past (some w) elapsed = le w elapsed
+past None elapsed = false
+past (Some w) elapsed = le w elapsed
 
 -- what the elapsed milliseconds may be
 abbrev pub within_day : Float → Bool

@@ -3,12 +3,10 @@
 use Rattle.std.specs.Prelude.{[], ◌∷◌, Bool, true, ◌&&◌, Float, if◌then◌else◌}
 use Rattle.std.specs.Float.{binary64}
 use Rattle.std.specs.Float.Ieee.{add, sub, mul, div, neg, lt}
-use Rattle.wire.specs.Checks.{Verdict, refused, taken, ◌else◌, checked}
+use Rattle.wire.specs.Checks.{Verdict, taken, ◌else◌, checked}
 use Rattle.wire.specs.declared.refusal.Refusal.TheVariants.{Broken, Range}
 use Rattle.clock.specs.Milliseconds.{decimal, whole, lawful}
 use Rattle.clock.specs.declared.sheet.Sheet.{Sheet}
-use Rattle.clock.specs.declared.sheet.Timed.{Timed}
-use Rattle.clock.specs.declared.sheet.Timed.TheVariants as timed
 
 -- it hangs together; an untimed sheet's numbers don't matter. A sheet that does so still does after any lawful sample (`Sound.stays-sound`)
 abbrev pub sound : Sheet → Bool
@@ -35,7 +33,3 @@ smoothed s r =
 
 abbrev pub timing : Sheet → Float → Verdict Sheet
 timing s r = checked ((sound s else Broken) ∷ (lawful r else Range) ∷ []) (taken (smoothed s r))
-
-abbrev pub timed_of : Verdict Sheet → Timed
-timed_of (refused n) = timed.Refused n
-timed_of (taken s) = timed.Sheet s

@@ -1,7 +1,6 @@
 // The clock: how long answers take, and how long to wait for one.
 #![tactic(auto)]
 
-pub mod answer;
 pub mod patience;
 mod range;
 pub mod sheet;

@@ -1,10 +1,7 @@
 // Patience: how long to wait for an answer before the same is asked again.
-ghost use Rattle.std.specs.Prelude.{◌≡◌, [], ◌∷◌};
-ghost use Rattle.wire.specs.Checks.{taken, ◌else◌, checked};
-ghost use Rattle.clock.specs.Patience.{in_range, measured, clamped, waiting, wait_of, within_day, wait_over};
-ghost use Rattle.clock.specs.Answer.{said_of};
+ghost use Rattle.std.specs.Prelude.{◌≡◌};
+ghost use Rattle.clock.specs.Patience.{in_range, measured, clamped, waiting, wait_over};
 
-use crate::answer::Said;
 use crate::range::{MINUTE, is_between};
 use crate::sheet::{Sheet, is_sound};
 use wire::refusal::Refusal;
@@ -19,13 +16,6 @@ pub enum Patience {
     Fixed(f64),
     // The floor and the ceiling of what the sheet gives.
     Measured(f64, f64),
-}
-
-#[derive(Clone, Copy)]
-pub enum Wait {
-    Refused(Refusal),
-    Never,
-    After(f64),
 }
 
 fn is_in_range(rule: Patience) -> bool
@@ -60,40 +50,30 @@ fn clamp(floor: f64, ceiling: f64, wait: f64) -> f64
     }
 }
 
-// How long to wait under the rule.
-pub fn wait_of(sheet: Sheet, rule: Patience) -> Wait
-    ensures { result ≡ wait_of (waiting sheet rule) }
+// How long to wait under the rule, if it ever asks again.
+pub fn wait_of(sheet: Sheet, rule: Patience) -> Result<Option<f64>, Refusal>
+    ensures { result ≡ waiting sheet rule }
 {
     if !is_sound(sheet) {
-        return Wait::Refused(Refusal::Broken);
+        return Err(Refusal::Broken);
     }
     if !is_in_range(rule) {
-        return Wait::Refused(Refusal::Range);
+        return Err(Refusal::Range);
     }
     match rule {
-        Patience::Never => Wait::Never,
-        Patience::Fixed(wait) => Wait::After(wait),
-        Patience::Measured(floor, ceiling) => Wait::After(clamp(floor, ceiling, measure(sheet))),
+        Patience::Never => Ok(None),
+        Patience::Fixed(wait) => Ok(Some(wait)),
+        Patience::Measured(floor, ceiling) => Ok(Some(clamp(floor, ceiling, measure(sheet)))),
     }
-}
-
-fn say_at(elapsed: f64, yes: bool) -> Said
-    ensures { result ≡ said_of (checked ((within_day elapsed else 15) ∷ []) (taken yes)) }
-{
-    if !is_between(0.0, elapsed, DAY) {
-        return Said::Refused(Refusal::Range);
-    }
-    if yes { Said::Yes } else { Said::No }
 }
 
 // Whether the wait is over, so many milliseconds after the question.
-pub fn wait_over(sheet: Sheet, rule: Patience, elapsed: f64) -> Said
-    ensures { result ≡ said_of (wait_over sheet rule elapsed) }
+pub fn wait_over(sheet: Sheet, rule: Patience, elapsed: f64) -> Result<bool, Refusal>
+    ensures { result ≡ wait_over sheet rule elapsed }
 {
-    let wait = wait_of(sheet, rule);
-    match wait {
-        Wait::Refused(number) => Said::Refused(number),
-        Wait::Never => say_at(elapsed, false),
-        Wait::After(length) => say_at(elapsed, length <= elapsed),
+    let wait = wait_of(sheet, rule)?;
+    if !is_between(0.0, elapsed, DAY) {
+        return Err(Refusal::Range);
     }
+    Ok(wait.is_some_and(|length| length <= elapsed))
 }

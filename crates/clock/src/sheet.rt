@@ -1,22 +1,17 @@
 // The line sheet: how long answers take, in fractional milliseconds, after RFC 6298.
 ghost use Rattle.std.specs.Prelude.{◌≡◌};
-ghost use Rattle.clock.specs.Sheet.{sound, apart, smoothed, timing, timed_of};
+ghost use Rattle.clock.specs.Sheet.{sound, apart, smoothed, timing};
 
 use crate::range::is_lawful;
 use wire::refusal::Refusal;
 
+// The scope names this form, and the C interface hands an untimed sheet's numbers through: so a flag, and no Option.
 #[derive(Clone, Copy)]
 pub struct Sheet {
     pub mean: f64,
     pub spread: f64,
     // Whether any answer was timed. If none was, the numbers above mean nothing.
     pub timed: bool,
-}
-
-#[derive(Clone, Copy)]
-pub enum Timed {
-    Refused(Refusal),
-    Sheet(Sheet),
 }
 
 pub fn is_sound(sheet: Sheet) -> bool
@@ -58,14 +53,14 @@ fn smooth(sheet: Sheet, sample: f64) -> Sheet
 }
 
 // The sheet after an answer that took so many milliseconds.
-pub fn time(sheet: Sheet, sample: f64) -> Timed
-    ensures { result ≡ timed_of (timing sheet sample) }
+pub fn time(sheet: Sheet, sample: f64) -> Result<Sheet, Refusal>
+    ensures { result ≡ timing sheet sample }
 {
     if !is_sound(sheet) {
-        return Timed::Refused(Refusal::Broken);
+        return Err(Refusal::Broken);
     }
     if !is_lawful(sample) {
-        return Timed::Refused(Refusal::Range);
+        return Err(Refusal::Range);
     }
-    Timed::Sheet(smooth(sheet, sample))
+    Ok(smooth(sheet, sample))
 }
