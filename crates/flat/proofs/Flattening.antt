@@ -3,6 +3,7 @@
 use Prim.Native.Nat.{ℕ}
 use mathlib.Core.Path.{◌≡◌, ap, ◌∙◌}
 use mathlib.Core.List.{List}
+use Rattle.wire.specs.Checks.{Verdict}
 use Rattle.wire.specs.Reply.{Reply, Settled}
 use Rattle.flat.specs.Wrote.{wrote_of, FlatSettled}
 use Rattle.flat.specs.declared.wrote.Wrote.{Wrote}

@@ -1,12 +1,14 @@
 -- What every writer answers, and what it leaves in the lent output.
 -- Assumes nothing.
 use Rattle.std.specs.Prelude.{ℕ, ◌≡◌, List}
+use Rattle.wire.specs.Checks.{Verdict, refused, taken}
+use Rattle.wire.specs.Refusals.{number_of}
 use Rattle.wire.specs.Reply.{Reply, answer_of, left_of}
 use Rattle.flat.specs.declared.wrote.Wrote.{Wrote}
 
 -- the refusal, or 0 and how many bytes were written
 abbrev pub wrote_of : Verdict ℕ → Wrote
-wrote_of (refused n) = record { refusal = n; bytes = 0 }
+wrote_of (refused why) = record { refusal = number_of why; bytes = 0 }
 wrote_of (taken n) = record { refusal = 0; bytes = n }
 
 -- the answer r and the bytes left are those of the reply

@@ -3,6 +3,7 @@ ghost use Rattle.std.specs.Prelude.{◌≡◌};
 ghost use Rattle.flat.specs.Block.{flat_block, next_block};
 
 use blocks::Block;
+use wire::refusal::Refusal;
 
 #[repr(C)]
 #[derive(Clone, Copy)]
@@ -13,25 +14,21 @@ pub struct FlatBlock {
     pub next: u64,
 }
 
-fn flat_block(block: Block) -> FlatBlock
+fn flat_block(block: Result<Block, Refusal>) -> FlatBlock
     ensures { result ≡ flat_block block }
 {
     match block {
-        Block::Refused(number) => FlatBlock {
-            refusal: number as u64,
+        Err(why) => FlatBlock {
+            refusal: why.number() as u64,
             start: 0,
             length: 0,
             next: 0,
         },
-        Block::At {
-            start,
-            length,
-            next,
-        } => FlatBlock {
+        Ok(block) => FlatBlock {
             refusal: 0,
-            start: start as u64,
-            length: length as u64,
-            next: next as u64,
+            start: block.start as u64,
+            length: block.length as u64,
+            next: block.next as u64,
         },
     }
 }

@@ -1,8 +1,8 @@
-use wire::refusal::Refusal;
 // What every writer answers: the refusal, or how many bytes it wrote.
 ghost use Rattle.std.specs.Prelude.{◌≡◌};
 ghost use Rattle.flat.specs.Wrote.{wrote_of};
 
+use wire::refusal::Refusal;
 
 #[repr(C)]
 #[derive(Clone, Copy)]
@@ -15,8 +15,8 @@ pub fn wrote_of(written: Result<usize, Refusal>) -> Wrote
     ensures { result ≡ wrote_of written }
 {
     match written {
-        Err(number) => Wrote {
-            refusal: number as u64,
+        Err(why) => Wrote {
+            refusal: why.number() as u64,
             bytes: 0,
         },
         Ok(bytes) => Wrote {
