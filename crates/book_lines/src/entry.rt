@@ -1,101 +1,60 @@
 // What a line of the book says: bytes, and a number behind `>`.
 ghost use Rattle.std.specs.Prelude.{◌≤◌, length};
 
-use crate::{hex, numbers, scan};
+use crate::hex;
 
-// How many bytes a piece of a text puts, and where the text goes on.
-#[derive(Clone, Copy)]
-struct Piece {
-    count: usize,
-    next: usize,
+// How many runs a text has at most, with one more piece behind the last.
+const PIECES: usize = 3;
+
+// The last byte that was put is there so many times; nothing is, if there is no room for them.
+fn repeat(out: &mut [u8], put: usize, times: usize) -> Option<usize> {
+    let last = put.checked_sub(1)?;
+    let b = *out.get(last)?;
+    out.get_mut(last..)?.get_mut(..times)?.fill(b);
+    last.checked_add(times)
 }
 
-fn fill(out: &mut [u8], b: u8, from: usize, to: usize)
-    requires { to ≤ length out.old }
-{
-    let mut at = from;
-    while at < to {
-        out[at] = b;
-        at += 1;
-    }
+// Puts what a text spells up to the end of its first run, and answers how many bytes that are, and the text behind it. `5A*1463` is a
+// run: the byte 5A, 1,463 times.
+fn first_run<'a>(text: &'a str, out: &mut [u8]) -> (usize, &'a str) {
+    let Some((front, back)) = text.split_once('*') else {
+        return (hex::decode(text.as_bytes(), out), "");
+    };
+    let put = hex::decode(front.as_bytes(), out);
+    let (times, behind) = back
+        .split_once(|c: char| !c.is_ascii_digit())
+        .unwrap_or((back, ""));
+    let count = match times.parse() {
+        Ok(times) => repeat(out, put, times),
+        Err(_) => None,
+    };
+    (count.unwrap_or(0), behind)
 }
 
-pub fn fill_all(out: &mut [u8], b: u8) {
-    let end = out.len();
-    fill(out, b, 0, end);
+// Puts what a text spells, with two runs at most, at the start of out, and answers those bytes.
+pub fn bytes<'a>(text: &str, out: &'a mut [u8]) -> &'a [u8] {
+    let mut count = 0usize;
+    let mut rest = text;
+    for _ in 0..PIECES {
+        if let Some(room) = out.get_mut(count..) {
+            let (put, behind) = first_run(rest, room);
+            count = count.saturating_add(put);
+            rest = behind;
+        }
+    }
+    out.get(..count).unwrap_or(&[])
 }
 
-// The byte in front of a place is put so many times, and the place moves behind it.
-fn repeat(out: &mut [u8], place: usize, times: usize) -> usize {
-    if place == 0 {
-        return 0;
-    }
-    if out.len() < place {
-        return 0;
-    }
-    let last = place - 1;
-    if out.len() - last < times {
-        return 0;
-    }
-    let b = out[last];
-    fill(out, b, last, last + times);
-    last + times
-}
-
-// Puts what a text spells up to the end of its first run. `5A*1463` is a run: the byte 5A, 1,463 times.
-fn first_run(text: &[u8], out: &mut [u8]) -> Piece {
-    let star = scan::find(text, b'*');
-    let front = hex::decode(&text[0..star], out);
-    if star == text.len() {
-        return Piece {
-            count: front,
-            next: star,
-        };
-    }
-    let back = &text[star..];
-    let count = repeat(out, front, numbers::whole(back, 0) as usize);
-    Piece {
-        count,
-        next: std::num::wrapping_add_usize(star, numbers::behind(back)),
-    }
-}
-
-// Puts the next piece of a text behind what it has put already.
-fn next_run(text: &[u8], put: Piece, out: &mut [u8]) -> Piece {
-    let next = put.next;
-    let count = put.count;
-    if text.len() < next {
-        return put;
-    }
-    if out.len() < count {
-        return put;
-    }
-    let p = first_run(&text[next..], &mut out[count..]);
-    Piece {
-        count: std::num::wrapping_add_usize(count, p.count),
-        next: std::num::wrapping_add_usize(next, p.next),
-    }
-}
-
-// Puts what a text spells, with two runs at most, at the start of out, and answers how many bytes there are.
-pub fn bytes(text: &[u8], out: &mut [u8]) -> usize {
-    let first = first_run(text, out);
-    let second = next_run(text, first, out);
-    let all = next_run(text, second, out);
-    all.count
-}
-
-// The number behind `>`, or another one where there is none.
-pub fn behind_mark(text: &[u8], other: usize) -> usize {
-    let mark = scan::find(text, b'>');
-    if mark == text.len() {
-        return other;
-    }
-    numbers::whole(&text[mark..], 0) as usize
+// The number behind `>`, if there is one.
+pub fn behind_mark(text: &str) -> Option<usize> {
+    let (_, behind) = text.split_once('>')?;
+    behind.trim_ascii().parse().ok()
 }
 
 // The text in front of `>`.
-pub fn before_mark(text: &[u8]) -> &[u8] {
-    let mark = scan::find(text, b'>');
-    &text[0..mark]
+pub fn before_mark(text: &str) -> &str {
+    match text.split_once('>') {
+        Some((before, _)) => before,
+        None => text,
+    }
 }
