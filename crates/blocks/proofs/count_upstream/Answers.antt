@@ -4,17 +4,10 @@ use mathlib.Core.Path.{◌≡◌, sym, ◌∙◌}
 use native.Mathlib.Omega.{arith}
 use Rattle.wire.proofs.Checks.{passed-on}
 use Rattle.blocks.proofs.NextBlock.{stands, missed, tally-step, tally-torn, tally-empty, tally-end, count-some}
-use Rattle.blocks.proofs.NextBlock.{count_none}
 use Rattle.blocks.proofs.count_upstream.Goals as goal
 
 no-sum : (n : ℕ) → n + 1 ≡ 0 → ⊥
 no-sum n e = omega arith
-
-pub overflow_add-count : goal.overflow_add-count
-overflow_add-count c = let f = stands c.args.s.now c.loop-at.at c.next.ensures c.in_ok-block.was in let e = f.ends in let i = f.inside in omega arith
-
-pub loop-at-smaller : goal.loop-at-smaller
-loop-at-smaller c = let f = stands c.args.s.now c.loop-at.at c.next.ensures c.in_ok-block.was in let e = f.ends in let i = f.inside in omega arith
 
 pub loop-at-preserved : goal.loop-at-preserved
 loop-at-preserved c =
@@ -41,11 +34,6 @@ returns-then-block-eq0 c =
     let f = stands c.args.s.now c.loop-at.at c.next.ensures c.in_ok-block.was in
     sym (count-some s (omega arith) ∙ c.loop-at.invariant.3
     ∙ tally-empty s c.loop-at.at c.loop-at.count f.inside (sym f.states ∙ c.if-block-eq0.true))
-
-pub returns-then-count-eq0 : goal.returns-then-count-eq0
-returns-then-count-eq0 c =
-    let e = c.loop-at.invariant.2 c.if-count-eq0.true in
-    sym (count_none c.args.s.now (omega arith))
 
 pub returns : goal.returns
 returns c =
