@@ -7,7 +7,7 @@ use mathlib.Core.Path.{◌≡◌, refl}
 use mathlib.Core.List.{List, [], ◌∷◌}
 use mathlib.Core.Bool.{Bool, true, false, not, ◌&&◌, ◌||◌}
 use borrow.Author.Tests.{eqb-true}
-use Rattle.wire.specs.Checks.{◌is◌, Check, ◌else◌, checked, Passed, Verdict, refused, taken, ◌into◌}
+use Rattle.wire.specs.Checks.{◌is◌, Check, ◌else◌, checked, Passed, Verdict, refused, taken, ◌into◌, ◌told_by◌}
 use Rattle.wire.specs.declared.refusal.Refusal.{Refusal}
 use Rattle.wire.proofs.Tests.{by-test, impossible}
 
@@ -81,3 +81,17 @@ module _ {A B : Type 0} where
   pub went : (v : Verdict A) (next : A → Verdict B) (b : B) → v into next ≡ taken b → Went v next b
   went (refused why) next b e = not-both (refused why) why b refl e
   went (taken a) next b e = record { by = a; was = refl; gave = e }
+
+  -- what was told was taken, and so told; and a refusal that was told stood before
+  pub record Told (v : Verdict A) (tell : A → B) (b : B) : Type 0 where
+    pub by : A
+    pub was : v ≡ taken by
+    pub gave : tell by ≡ b
+
+  pub told : (v : Verdict A) (tell : A → B) (b : B) → v told_by tell ≡ taken b → Told v tell b
+  told (refused why) tell b e = not-both (refused why) why b refl e
+  told (taken a) tell b e = record { by = a; was = refl; gave = taken-same (tell a) b e }
+
+  pub told-refused : (v : Verdict A) (tell : A → B) (why : Refusal) → v told_by tell ≡ refused why → v ≡ refused why
+  told-refused (refused m) tell why e = rw (refused-same m why e)
+  told-refused (taken a) tell why e = not-both (taken (tell a)) why (tell a) e refl
