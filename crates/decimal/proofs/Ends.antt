@@ -1,7 +1,7 @@
 -- The digits that end a field, and what stands before them: spaces there, or nothing, and the digits are the number; anything else,
 -- and the field is misshapen.
 -- Assumes nothing.
-use Rattle.std.proofs.Common.{◌≡◌, ℕ, zero, suc, ◌+◌, ◌-◌, ◌*◌, ◌^◌, ◌<◌, ◌≤◌, true, false, ◌&&◌, eqb, leb, List, [], ◌∷◌, ◌++◌, length}
+use Rattle.std.proofs.Common.{◌≡◌, ℕ, zero, suc, ◌+◌, ◌-◌, ◌*◌, ◌^◌, ◌<◌, ◌≤◌, true, false, Ok, Err, ◌&&◌, eqb, leb, List, [], ◌∷◌, ◌++◌, length}
 use Rattle.std.proofs.Common.{get_or, take, drop, refl, ◌∙◌, true≢false, le_of_suc-le-suc, not-suc-le-zero, add_comm, arith, length-drop}
 use Rattle.std.proofs.Common.{take-append-drop, drop_of_length-le, ne_eqb, eqb-true, le-leb, leb-false}
 use mathlib.Core.Bool.{and-false}
@@ -12,7 +12,7 @@ use Rattle.wire.specs.Checks.{◌is◌, ◌at_most◌}
 use Rattle.wire.proofs.Tests.{by-test, and_left, and_right}
 use Rattle.text.specs.Text.{blank}
 use Rattle.decimal.specs.Decimal.{digit, digits, trimmed, well_formed, spelt, value_of, fitted, number_of}
-use Rattle.decimal.specs.declared.Number.TheVariants.{Misshapen, Blank, Is}
+use Rattle.decimal.specs.declared.Fault.TheVariants.{Misshapen, Blank}
 use Rattle.decimal.proofs.Digits.{digit_low, digit-step, spelt-step}
 use Rattle.decimal.proofs.Written.{spelt-lt}
 use Rattle.decimal.proofs.Spaces.{blank-append}
@@ -89,7 +89,7 @@ module _ (s : List ℕ) (k : ℕ) (l : length s ≡ 20) (h : k ≤ 19) (d : digi
   below = let most : 10 ^ k ≤ 10 ^ 19 = pow-le-pow_right (omega arith) h in omega (arith, within)
 
   -- something else before them
-  pub misshapen : digit (get_or s (19 - k) 0) ≡ false → blank (take (20 - k) s) ≡ false → number_of s ≡ Misshapen
+  pub misshapen : digit (get_or s (19 - k) 0) ≡ false → blank (take (20 - k) s) ≡ false → number_of s ≡ Err Misshapen
   unfolding number_of well_formed
   misshapen e f =
       let up : 20 - k ≡ suc (19 - k) = omega arith in
@@ -103,14 +103,14 @@ module _ (s : List ℕ) (k : ℕ) (l : length s ≡ 20) (h : k ≤ 19) (d : digi
     blanks : blank s ≡ blank (drop (20 - k) s)
     blanks = rw (take-append-drop, f) at (blank-append (take (20 - k) s) (drop (20 - k) s))
 
-    pub none : k ≡ 0 → number_of s ≡ Blank
+    pub none : k ≡ 0 → number_of s ≡ Err Blank
     unfolding number_of well_formed digits blank
     none z =
         let past : length s ≤ 20 - k = omega arith in
         let empty : drop (20 - k) s ≡ [] = drop_of_length-le s past in
         rw (l, trims, blanks, empty)
 
-    pub number : 0 < k → number_of s ≡ Is (spelt (drop (20 - k) s))
+    pub number : 0 < k → number_of s ≡ Ok (spelt (drop (20 - k) s))
     number p =
         let all : length (take (20 - k) s ++ drop (20 - k) s) ≡ 20 = rw take-append-drop l in
         rw take-append-drop at (spaces-then-digits (take (20 - k) s) (drop (20 - k) s) all f d (rw count p))

@@ -1,13 +1,12 @@
 -- Noughts in front of a number's digits count for nothing: a field that is padded with them is the same number as one that is padded with
 -- spaces.
 -- Assumes nothing.
-use Rattle.std.proofs.Common.{◌≡◌, ℕ, zero, suc, ◌+◌, ◌-◌, ◌^◌, ◌<◌, ◌≤◌, true, List, [], ◌++◌, length, replicate, sym, refl, ◌∙◌}
+use Rattle.std.proofs.Common.{◌≡◌, ℕ, zero, suc, ◌+◌, ◌-◌, ◌^◌, ◌<◌, ◌≤◌, true, Ok, List, [], ◌++◌, length, replicate, sym, refl, ◌∙◌}
 use Rattle.std.proofs.Common.{append-nil, zero-add, zero-mul, arith, length-append, le-leb}
 use native.Mathlib.Nat.{pow-le-pow_right}
 use lib.ListN.{length-replicate}
 use Rattle.text.specs.Text.{blank}
 use Rattle.decimal.specs.Decimal.{digit, digits, spelt, fitted, number_of}
-use Rattle.decimal.specs.declared.Number.TheVariants.{Is}
 use Rattle.decimal.proofs.Written.{spelt-lt}
 use Rattle.decimal.proofs.Ends.{spaces-then-digits}
 
@@ -35,7 +34,7 @@ module _ (j k : ℕ) (t : List ℕ) (l : j + k + length t ≡ 20) (d : digits t 
       spaces-then-digits (replicate j 32) (replicate k 48 ++ t) all (all-spaces j) (all_digits k t d) some ∙ rw (no_more k t)
 
   -- behind a nought stand too few digits for a number over the bound
-  pub never-over : 0 < k → number_of (replicate j 32 ++ (replicate k 48 ++ t)) ≡ Is (spelt t)
+  pub never-over : 0 < k → number_of (replicate j 32 ++ (replicate k 48 ++ t)) ≡ Ok (spelt t)
   never-over h =
       let few : length t ≤ 19 = omega arith in
       let most : 10 ^ length t ≤ 10 ^ 19 = pow-le-pow_right (omega arith) few in
@@ -47,6 +46,6 @@ module _ (j k : ℕ) (t : List ℕ) (l : j + k + length t ≡ 20) (d : digits t 
       noughts-count-for-nothing (omega arith) ∙ sym (spaces-then-digits (replicate (j + k) 32) t all (all-spaces (j + k)) d h)
 
 -- Nothing but noughts after the spaces is 0.
-pub all-noughts : (j k : ℕ) → j + k ≡ 20 → 0 < k → number_of (replicate j 32 ++ replicate k 48) ≡ Is 0
+pub all-noughts : (j k : ℕ) → j + k ≡ 20 → 0 < k → number_of (replicate j 32 ++ replicate k 48) ≡ Ok 0
 unfolding digits spelt
 all-noughts j k l h = rw append-nil at (never-over j k [] (omega arith) refl h)

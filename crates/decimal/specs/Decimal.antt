@@ -1,11 +1,11 @@
 -- A number on the wire: twenty characters, spaces and then digits.
 -- Assumes nothing.
 use Rattle.std.specs.Prelude.{ℕ, zero, suc, ◌+◌, ◌-◌, ◌*◌, ◌/◌, ◌%◌, ◌^◌, Bool, true, not, ◌&&◌, ◌||◌, List, [], ◌∷◌, length, if◌then◌else◌}
-use Rattle.std.specs.Prelude.{slice_index_or}
+use Rattle.std.specs.Prelude.{slice_index_or, Result, Ok, Err}
 use Rattle.wire.specs.Checks.{◌is◌, ◌at_most◌}
 use Rattle.text.specs.Text.{blank}
-use Rattle.decimal.specs.declared.Number.{Number}
-use Rattle.decimal.specs.declared.Number.TheVariants.{Misshapen, Blank, Over, Is}
+use Rattle.decimal.specs.declared.Fault.{Fault}
+use Rattle.decimal.specs.declared.Fault.TheVariants.{Misshapen, Blank, Over}
 
 -- 0 to 9
 unfoldable pub digit : ℕ → Bool
@@ -53,12 +53,12 @@ unfoldable pub leading_zero : List ℕ → Bool
 leading_zero s = 2 at_most length (trimmed s) && slice_index_or (trimmed s) 0 0 is 48
 
 -- a value, unless it is over the bound
-abbrev pub fitted : ℕ → Number
-fitted n = if n at_most 2 ^ 64 - 1 then Is n else Over
+abbrev pub fitted : ℕ → Result ℕ Fault
+fitted n = if n at_most 2 ^ 64 - 1 then Ok n else Err Over
 
 -- what any characters come to; ReadAs shows that twenty spaces are no number, and never 0
-unfoldable pub number_of : List ℕ → Number
+unfoldable pub number_of : List ℕ → Result ℕ Fault
 number_of s =
-    if not (length s is 20 && well_formed s) then Misshapen
-    else if blank s then Blank
+    if not (length s is 20 && well_formed s) then Err Misshapen
+    else if blank s then Err Blank
     else fitted (value_of s)

@@ -30,14 +30,13 @@ const POWERS: [u64; 20] = [
     10000000000000000000,
 ];
 
-// What was read: nothing of that form, twenty spaces, a number over 2^64-1, or a number and its value.
+// Why characters are no number: they aren't of that form, they are twenty spaces, or they come to more than 2^64-1.
 // Spaces have a case of their own, so that no caller takes them for 0.
-#[derive(Clone, Copy)]
-pub enum Number {
+#[derive(Clone, Copy, Debug, PartialEq, Eq)]
+pub enum Fault {
     Misshapen,
     Blank,
     Over,
-    Is(u64),
 }
 
 // What a character counts for: a digit its value, anything else more than 9.
@@ -77,17 +76,17 @@ fn tail_of(s: &[u8]) -> Tail
 }
 
 // The digit d in front of nineteen that come to n: only here can the sum be over 2^64-1.
-fn twenty(d: u64, n: u64) -> Number
+fn twenty(d: u64, n: u64) -> Result<u64, Fault>
     requires { n < 10 ^ 19 }
     ensures { result ≡ fitted (d * 10 ^ 19 + n) }
 {
     if d == 0 {
-        return Number::Is(n);
+        return Ok(n);
     }
     if (d == 1) & (n <= u64::MAX - POWERS[19]) {
-        Number::Is(POWERS[19] + n)
+        Ok(POWERS[19] + n)
     } else {
-        Number::Over
+        Err(Fault::Over)
     }
 }
 
@@ -137,11 +136,11 @@ fn are_spaces(s: &[u8], n: usize) -> bool
 }
 
 // Any characters, read. Where there are no digits their sum is 0 too: that is told as blank, never as a number.
-pub fn read(s: &[u8]) -> Number
+pub fn read(s: &[u8]) -> Result<u64, Fault>
     ensures { result ≡ number_of s.now }
 {
     if s.len() != 20 {
-        return Number::Misshapen;
+        return Err(Fault::Misshapen);
     }
     let tail = tail_of(s);
     let first = figure(s[0]);
@@ -150,12 +149,12 @@ pub fn read(s: &[u8]) -> Number
     }
     let from = 20 - tail.count;
     if !are_spaces(s, from) {
-        return Number::Misshapen;
+        return Err(Fault::Misshapen);
     }
     if tail.count == 0 {
-        return Number::Blank;
+        return Err(Fault::Blank);
     }
-    Number::Is(tail.value)
+    Ok(tail.value)
 }
 
 // The last digit of n, whose tenth is given.

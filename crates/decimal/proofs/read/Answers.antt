@@ -1,8 +1,7 @@
 -- `read` counts the digits that end the field; what stands before them decides, as `Ends` says.
-use Rattle.std.proofs.Common.{◌≡◌, sym, ap, ◌∙◌, pos_of_ne-zero, ne_eqb, eqb-true, le-leb, leb-true}
+use Rattle.std.proofs.Common.{◌≡◌, Ok, sym, ap, ◌∙◌, pos_of_ne-zero, ne_eqb, eqb-true, le-leb, leb-true}
 use Rattle.wire.proofs.Tests.{both, held, failed}
 use Rattle.decimal.specs.Decimal.{number_of}
-use Rattle.decimal.specs.declared.Number.TheVariants.{Is}
 use Rattle.decimal.proofs.Ends.{below, stops, misshapen, none, number, of-twenty}
 use Rattle.decimal.proofs.read.Goals as goal
 
@@ -39,6 +38,6 @@ returns-then-tail-eq0 c =
 
 pub returns : goal.returns
 returns c =
-    ap Is c.tail_of-tail.ensures.2 ∙ sym (number _ _ c.if-s-ne20.false c.tail_of-tail.ensures.0 c.tail_of-tail.ensures.1
+    ap Ok c.tail_of-tail.ensures.2 ∙ sym (number _ _ c.if-s-ne20.false c.tail_of-tail.ensures.0 c.tail_of-tail.ensures.1
     (held c.are_spaces.ensures c.if-not-are_spaces.false-raw)
     (pos_of_ne-zero c.if-tail-eq0.false))
