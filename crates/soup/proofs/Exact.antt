@@ -12,6 +12,7 @@ use lib.Seq.{drop-cons}
 use borrow.Author.Tests.{eq-eqb, ne_eqb, le-leb, eqb-true, eqb-false, leb-true, not-true}
 use Rattle.wire.specs.Fields.{Bytes}
 use Rattle.wire.specs.Checks.{Verdict, taken, checked, Passed}
+use Rattle.wire.specs.declared.refusal.Refusal.TheVariants.{UnknownType}
 use Rattle.text.specs.Text.{blank}
 use Rattle.wire.proofs.Checks.{all-passed, passed-all, not-both, taken-same}
 use Rattle.wire.proofs.Tests.{one-of-fact}
@@ -265,7 +266,7 @@ module _ (d : List ℕ) (b : Bytes d) (o : Passed (opening d)) (p : Packet) wher
         client_heartbeat = own 82 _ refl refl (bare 82 client_heartbeat tt refl);
         logout = own 79 _ refl refl (bare 79 logout tt refl);
       })
-      (λ u _. not-both (by_type kind d) 3 p (unknown-is-3 kind d u))
+      (λ u _. not-both (by_type kind d) UnknownType p (unknown-is-3 kind d u))
 
 -- Nothing else is taken: what is taken is lawful, and written again it gives its spelling, which is the very bytes that were read unless
 -- their number is padded with noughts.

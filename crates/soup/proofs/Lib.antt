@@ -1,6 +1,5 @@
 pub mod Linefeed
 pub mod Lines
-pub mod Faults
 pub mod Together
 pub mod Types
 pub mod Sorting

@@ -3,7 +3,7 @@
 use Prim.Native.Nat.{ℕ, suc, ◌+◌, ◌-◌, ◌≤◌}
 use mathlib.Core.Path.{◌≡◌, refl, sym, ap, ◌∙◌}
 use mathlib.Core.List.{List, [], ◌∷◌, ◌++◌, append_assoc, append-nil}
-use mathlib.Core.Bool.{true, false, not}
+use mathlib.Core.Bool.{true, not}
 use native.Mathlib.Omega.{arith}
 use lib.Dec.{eqb}
 use lib.ListN.{length, get_or, take, drop, length-append, length-drop}
@@ -86,7 +86,3 @@ login-found user password session number u p s n =
       field_in 76 16 10 fields two session number (append_assoc two session number) (simp length-append (omega arith)) s,
       field_in 76 26 20 fields three number [] (rw append-nil) (simp length-append (omega arith)) n,
     )
-
-pub last_empty : (d : List ℕ) → length d ≡ 0 → eqb (last d) 10 ≡ false
-last_empty [] e = refl
-last_empty (x ∷ d) e = absurd (omega arith)

@@ -2,13 +2,15 @@
 -- Assumes nothing.
 use Rattle.std.specs.Prelude.{if◌then◌else◌}
 use Prim.Native.Nat.{ℕ}
-use mathlib.Core.Path.{◌≡◌, refl, sym, ap, ◌∙◌}
+use mathlib.Core.Path.{◌≡◌, refl, ap}
 use mathlib.Core.List.{List, ◌∷◌, ◌++◌}
-use mathlib.Core.Bool.{Bool, true, ◌||◌}
+use mathlib.Core.Bool.{Bool, true, false, ◌||◌}
 use lib.ListN.{get_or}
 use Rattle.wire.specs.Checks.{◌is◌, refused, taken, Check, ◌else◌, checked, ordered}
+use Rattle.wire.specs.Refusals.{number_of}
+use Rattle.wire.specs.declared.refusal.Refusal.{Refusal}
 use Rattle.wire.specs.declared.refusal.Refusal.TheVariants.{UnknownType}
-use Rattle.wire.proofs.Numbered.{numbered, never-taken}
+use Rattle.wire.proofs.Numbered.{has-number}
 use Rattle.decimal.specs.Decimal.{value_of}
 use Rattle.soup.specs.Packet.{Packet, debug, accept, reject, sequenced, server_heartbeat, end_of_session, login, unsequenced}
 use Rattle.soup.specs.Packet.{client_heartbeat, logout, carries}
@@ -54,7 +56,7 @@ module _ (d : List ℕ) where
   abbrev InOrder : ℕ → Type 0
   InOrder kind =
       let checks = opening d ++ from_type kind d in
-      (by_type kind d ≡ checked (from_type kind d) (taken (packet_in kind d))) × (ordered checks ≡ true) × (numbered checks ≡ true)
+      (by_type kind d ≡ checked (from_type kind d) (taken (packet_in kind d))) × (ordered checks ≡ true)
 
   in_order : InOrder (get_or d 0 0)
   unfolding reject_of accept_of login_of
@@ -62,16 +64,16 @@ module _ (d : List ℕ) where
       let kind = get_or d 0 0 in
       every-type InOrder kind
       (record {
-        debug = (refl, refl, refl);
-        accept = (refl, refl, refl);
-        reject = (refl, refl, refl);
-        sequenced = (refl, refl, refl);
-        server_heartbeat = (refl, refl, refl);
-        end_of_session = (refl, refl, refl);
-        login = (refl, refl, refl);
-        unsequenced = (refl, refl, refl);
-        client_heartbeat = (refl, refl, refl);
-        logout = (refl, refl, refl);
+        debug = (refl, refl);
+        accept = (refl, refl);
+        reject = (refl, refl);
+        sequenced = (refl, refl);
+        server_heartbeat = (refl, refl);
+        end_of_session = (refl, refl);
+        login = (refl, refl);
+        unsequenced = (refl, refl);
+        client_heartbeat = (refl, refl);
+        logout = (refl, refl);
       })
       (λ u.
       rw (
@@ -85,7 +87,7 @@ module _ (d : List ℕ) where
         u.unsequenced,
         u.client_heartbeat,
         u.logout,
-      ) (refl, refl, refl))
+      ) (refl, refl))
 
   -- The reader is that list.
   pub read-by-checks : read d ≡ checked (all_checks d) (taken (packet_in (get_or d 0 0) d))
@@ -96,5 +98,5 @@ module _ (d : List ℕ) where
   pub checks-in-order : ordered (all_checks d) ≡ true
   checks-in-order = in_order.1
 
-  pub never-under-0 : read d ≡ refused 0 → ⊥
-  never-under-0 e = never-taken (all_checks d) (packet_in (get_or d 0 0) d) in_order.2 (sym read-by-checks ∙ e)
+  pub never-under-0 : (why : Refusal) → read d ≡ refused why → number_of why is 0 ≡ false
+  never-under-0 why e = has-number why

@@ -1,19 +1,22 @@
 -- A packet that is neither empty nor too long is read by its type byte.
 -- Assumes nothing.
 use Prim.Native.Nat.{ℕ, ◌-◌, ◌≤◌, ◌<◌}
-use mathlib.Core.Path.{◌≡◌, refl, ap, ◌∙◌}
+use mathlib.Core.Path.{◌≡◌, refl, sym, ap, ◌∙◌}
 use mathlib.Core.List.{List}
 use native.Mathlib.Omega.{arith}
 use lib.ListN.{length, get_or, drop, length-drop}
 use lib.Seq.{length-take-le}
 use borrow.Author.Tests.{le-leb, lt-leb}
-use Rattle.wire.specs.Checks.{refused, taken, checked}
+use Rattle.wire.specs.Checks.{Verdict, refused, taken, Check, checked, ◌told_by◌}
 use Rattle.wire.specs.declared.refusal.Refusal.TheVariants.{Empty, Overlong}
 use Rattle.soup.specs.Packet.{Packet, line_limit}
 use Rattle.soup.specs.Read.{payload, line_checks, sized_checks, by_type, read}
-use Rattle.soup.specs.Reading.{packet_of, reading_of, fault, or_refused}
+use Rattle.soup.specs.Reading.{packet_of}
 use Rattle.soup.specs.declared.reading.Reading.{Reading}
-use Rattle.soup.proofs.Faults.{reading-of}
+use Rattle.wire.proofs.Checks.{through}
+
+told-checked : (cs : List Check) (packet : Packet) → checked cs (taken packet) told_by packet_of ≡ checked cs (taken (packet_of packet))
+told-checked cs packet = through (λ v. v told_by packet_of) (λ why. refl) cs (taken packet)
 
 module _ (d : List ℕ) where
   pub empty : length d ≡ 0 → read d ≡ refused Empty
@@ -30,14 +33,14 @@ module _ (d : List ℕ) where
 
   -- what the code answers for a payload, under any of the three types
   pub carried-as : (packet : List ℕ → Packet) (view : ℕ → Reading) → ((s : List ℕ) → packet_of (packet s) ≡ view (length s))
-      → (n : ℕ) (r : Reading) → n ≡ length d - 2 → r ≡ or_refused (fault (line_checks d)) (view n)
-      → r ≡ reading_of (checked (line_checks d) (taken (packet (payload d))))
+      → (n : ℕ) (r : Verdict Reading) → n ≡ length d - 2 → r ≡ checked (line_checks d) (taken (view n))
+      → r ≡ checked (line_checks d) (taken (packet (payload d))) told_by packet_of
   carried-as packet view same n r l e =
       let m : length (payload d) ≡ n = length-take-le (length d - 2) (drop 1 d) (rw length-drop (omega arith)) ∙ omega arith in
       let v : view n ≡ packet_of (packet (payload d)) = rw (same, m) in
-      e ∙ ap (or_refused (fault (line_checks d))) v ∙ reading-of (line_checks d) (taken (packet (payload d))) refl
+      e ∙ ap (λ (q : Reading). checked (line_checks d) (taken q)) v ∙ sym (told-checked (line_checks d) (packet (payload d)))
 
   -- and for a packet that holds nothing
-  pub bare-as : (packet : Packet) (r : Reading) → r ≡ or_refused (fault (sized_checks 2 d)) (packet_of packet)
-      → r ≡ reading_of (checked (sized_checks 2 d) (taken packet))
-  bare-as packet r e = e ∙ reading-of (sized_checks 2 d) (taken packet) refl
+  pub bare-as : (packet : Packet) (r : Verdict Reading) → r ≡ checked (sized_checks 2 d) (taken (packet_of packet))
+      → r ≡ checked (sized_checks 2 d) (taken packet) told_by packet_of
+  bare-as packet r e = e ∙ sym (told-checked (sized_checks 2 d) packet)

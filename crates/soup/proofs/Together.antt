@@ -1,87 +1,106 @@
 -- The readers of `A` and `L`: the texts' padding is checked together, and then all goes by what the number came to.
 -- Assumes nothing.
-use Rattle.std.specs.Prelude.{if◌then◌else◌}
+use Rattle.std.specs.Prelude.{Ok, Err, Result, if◌then◌else◌}
 use Prim.Native.Nat.{ℕ, ◌-◌, ◌^◌}
-use mathlib.Core.Path.{◌≡◌, refl, ◌∙◌}
-use mathlib.Core.List.{List, [], ◌∷◌}
-use mathlib.Core.Bool.{Bool, false, not, ◌&&◌, ◌||◌}
-use native.Mathlib.Omega.{arith}
+use mathlib.Core.Path.{◌≡◌, sym, ap, ◌∙◌}
+use mathlib.Core.List.{List, ◌∷◌}
+use mathlib.Core.Bool.{Bool, true, ◌&&◌}
 use lib.ListN.{length}
-use borrow.Author.Tests.{ne_eqb, leb-false}
-use Rattle.wire.specs.Checks.{◌is◌, ◌at_most◌, Verdict, taken, refused, ◌else◌, checked}
+use borrow.Author.Tests.{eqb-true}
+use Rattle.wire.specs.Checks.{◌is◌, ◌at_most◌, Verdict, taken, refused, ◌else◌, checked, ◌into◌}
 use Rattle.wire.specs.declared.refusal.Refusal.TheVariants.{Form, Absent, Bound}
 use Rattle.wire.proofs.Tests.{by-test}
-use Rattle.wire.proofs.Checks.{checked-both, checked-neither}
+use Rattle.wire.proofs.Checks.{checked-both, into-checked}
 use Rattle.text.specs.Text.{blank, text_then_spaces, spaces_then_text}
-use Rattle.decimal.specs.Decimal.{well_formed, value_of, fitted, number_of}
-use Rattle.decimal.specs.declared.Number.{Number}
-use Rattle.decimal.specs.declared.Number.TheVariants.{Misshapen, Blank, Over, Is}
+use Rattle.decimal.specs.Decimal.{well_formed, value_of, number_of}
+use Rattle.decimal.specs.declared.Fault.{Fault}
+use Rattle.decimal.specs.declared.Fault.TheVariants.{Misshapen, Blank, Over}
 use Rattle.soup.specs.Packet.{Packet, accept, login}
 use Rattle.soup.specs.Read.{accept_of, login_of}
+use Rattle.soup.specs.Reading.{number_checks}
 
--- the verdict by what the number came to, where the texts are padded as they should be: `absent` says that a text is blank which may not
--- be, `void` of a number that it may not stand there
-abbrev pub by_number : (absent : Bool) (void : ℕ → Bool) (packet : ℕ → Packet) → Number → Verdict Packet
-by_number absent void packet Misshapen = refused Form
-by_number absent void packet Blank = refused Absent
-by_number absent void packet Over = if absent then refused Absent else refused Bound
-by_number absent void packet (Is n) = if absent || void n then refused Absent else taken (packet n)
+-- the verdict on a number by what it came to: `absent` says that the text beside it is blank
+abbrev pub by_number : (absent : Bool) → Result ℕ Fault → Verdict ℕ
+by_number absent (Err Misshapen) = refused Form
+by_number absent (Err Blank) = refused Absent
+by_number absent (Err Over) = if absent then refused Absent else refused Bound
+by_number absent (Ok n) = if absent then refused Absent else taken n
+
+pub by_number_lem : (absent : Bool) (number : List ℕ) → length number ≡ 20
+    → checked (number_checks absent number) (taken (value_of number)) ≡ by_number absent (number_of number)
+unfolding number_of
+by_number_lem absent number l =
+    by-test (well_formed number)
+    (λ f.
+    by-test (blank number)
+    (λ b. rw (l, f, b) (by-test absent (λ s. rw s) (λ s. rw s)))
+    (λ b.
+    by-test (value_of number at_most 2 ^ 64 - 1)
+    (λ v. rw (l, f, b, v) (by-test absent (λ s. rw s) (λ s. rw s)))
+    (λ v. rw (l, f, b, v) (by-test absent (λ s. rw s) (λ s. rw s)))))
+    (λ f. rw (l, f))
+
+-- what was read, as r
+pub number-as : (absent : Bool) (number : List ℕ) (r n : Result ℕ Fault) → length number ≡ 20 → r ≡ number_of number → r ≡ n
+    → by_number absent n ≡ checked (number_checks absent number) (taken (value_of number))
+number-as absent number r n l e f = ap (by_number absent) (sym f ∙ e) ∙ sym (by_number_lem absent number l)
 
 -- an `A` has a session and a number that is not 0, an `L` a user
-abbrev pub accept_by : (session : List ℕ) → Number → Verdict Packet
-accept_by session n = by_number (blank session) (λ v. v is 0) (accept session) n
+abbrev pub accept_by : (session : List ℕ) → ℕ → Verdict Packet
+accept_by session n = if n is 0 then refused Absent else taken (accept session n)
 
-abbrev pub login_by : (user password session : List ℕ) → Number → Verdict Packet
-login_by user password session n = by_number (blank user) (λ v. false) (login user password session) n
+abbrev pub session_number : (session number : List ℕ) → Verdict ℕ
+session_number session number = checked (number_checks (blank session) number) (taken (value_of number))
 
--- a number over the bound is not void
-module _ (absent : Bool) (void : ℕ → Bool) (packet : ℕ → Packet) (bounded : (v : ℕ) → v at_most 2 ^ 64 - 1 ≡ false → void v ≡ false) where
-  -- once the number is well formed and not blank
-  by_value : (v : ℕ) → checked ((not absent else Absent) ∷ (not (void v) else Absent) ∷ (v at_most 2 ^ 64 - 1 else Bound) ∷ [])
-      (taken (packet v)) ≡ by_number absent void packet (fitted v)
-  by_value v =
-      by-test (v at_most 2 ^ 64 - 1)
-      (λ u. rw u (checked-neither 6 absent (void v) [] (taken (packet v))))
-      (λ u. rw (u, bounded v u) (by-test absent (λ s. rw s) (λ s. rw s)))
+abbrev pub user_number : (user number : List ℕ) → Verdict ℕ
+user_number user number = checked (number_checks (blank user) number) (taken (value_of number))
 
-  by_number_lem : (number : List ℕ) → length number ≡ 20
-      → checked ((well_formed number else Form) ∷ (not absent else Absent) ∷ (not (blank number) else Absent) ∷ (not (void (value_of number)) else Absent)
-      ∷ (value_of number at_most 2 ^ 64 - 1 else Bound) ∷ []) (taken (packet (value_of number)))
-      ≡ by_number absent void packet (number_of number)
-  unfolding number_of
-  by_number_lem number l =
-      by-test (well_formed number)
-      (λ f.
-      by-test (blank number)
-      (λ b. rw (l, f, b) (by-test absent (λ s. rw s) (λ s. rw s)))
-      (λ b. rw (l, f, b) (by_value (value_of number))))
-      (λ f. rw (l, f))
-
-pub accept-together : (session number : List ℕ) → length number ≡ 20
-    → accept_of session number ≡ (if spaces_then_text session then accept_by session (number_of number) else refused Form)
+pub accept-together : (session number : List ℕ) → accept_of session number
+    ≡ (if spaces_then_text session then session_number session number into accept_by session else refused Form)
 unfolding accept_of
-accept-together session number l =
+accept-together session number =
     by-test (spaces_then_text session)
-    (λ p. rw p (by_number_lem (blank session) (λ v. v is 0) (accept session) over-nought number l))
-    (λ p. rw p) where
-      -- what is over the bound is not 0
-      over-nought : (v : ℕ) → v at_most 2 ^ 64 - 1 ≡ false → v is 0 ≡ false
-      over-nought v e = ne_eqb v 0 (λ z. omega (arith, leb-false v (2 ^ 64 - 1) e))
+    (λ p.
+    rw p (by-test (well_formed number)
+    (λ f.
+    by-test (blank session)
+    (λ a. rw (f, a))
+    (λ a.
+    by-test (blank number)
+    (λ b. rw (f, a, b))
+    (λ b.
+    by-test (value_of number is 0)
+    (λ z. rw (f, a, b, eqb-true (value_of number) 0 z))
+    (λ z. rw (f, a, b, z) (by-test (value_of number at_most 2 ^ 64 - 1) (λ v. rw (v, z)) (λ v. rw v))))))
+    (λ f. rw f)))
+    (λ p. rw p)
 
-pub login-together : (user password session number : List ℕ) → length number ≡ 20
-    → login_of user password session number
-    ≡ (if text_then_spaces user && text_then_spaces password && spaces_then_text session then login_by user password session
-    (number_of number)
+pub login-together : (user password session number : List ℕ) → login_of user password session number
+    ≡ (if text_then_spaces user && text_then_spaces password && spaces_then_text session
+    then (user_number user number into λ n. taken (login user password session n))
     else refused Form)
 unfolding login_of
-login-together user password session number l =
+login-together user password session number =
     let u = text_then_spaces user in
     let p = text_then_spaces password in
     let s = spaces_then_text session in
-    let bound = (value_of number at_most 2 ^ 64 - 1 else Bound) in
-    let rest = (well_formed number else Form) ∷ (not (blank user) else Absent) ∷ (not (blank number) else Absent) ∷ bound ∷ [] in
+    let rest = number_checks (blank user) number in
     let v = taken (login user password session (value_of number)) in
-    checked-both 5 u p ((s else Form) ∷ rest) v
-    ∙ checked-both 5 (u && p) s rest v
-    ∙ by-test (u && p && s) (λ t. rw t (by_number_lem (blank user) (λ n. false) (login user password session) (λ n e. refl) number l))
+    checked-both Form u p ((s else Form) ∷ rest) v
+    ∙ checked-both Form (u && p) s rest v
+    ∙ by-test (u && p && s)
+    (λ t. rw t (sym (into-checked rest (taken (value_of number)) (λ n. taken (login user password session n)))))
     (λ t. rw t)
+
+-- the padding is as it should be, and the number was read as r
+pub accept-as : (session number : List ℕ) (absent : Bool) (v r : Verdict ℕ) → spaces_then_text session ≡ true → absent ≡ blank session
+    → v ≡ checked (number_checks absent number) (taken (value_of number)) → v ≡ r → accept_of session number ≡ r into accept_by session
+accept-as session number absent v r p a e f =
+    accept-together session number ∙ rw (p, ← a, ← e, f)
+
+pub login-as : (user password session number : List ℕ) (absent : Bool) (v r : Verdict ℕ)
+    → text_then_spaces user && text_then_spaces password && spaces_then_text session ≡ true → absent ≡ blank user
+    → v ≡ checked (number_checks absent number) (taken (value_of number)) → v ≡ r
+    → login_of user password session number ≡ r into λ n. taken (login user password session n)
+login-as user password session number absent v r p a e f =
+    login-together user password session number ∙ rw (p, ← a, ← e, f)

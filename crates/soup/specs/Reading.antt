@@ -1,12 +1,15 @@
--- What the code answers: each case of its enum from the verdict on a packet.
+-- How the code tells a packet: each case of its enum.
 -- Assumes nothing.
-use Rattle.std.specs.Prelude.{ℕ, List, [], ◌∷◌, length, if◌then◌else◌}
-use Rattle.wire.specs.Checks.{◌is◌, Verdict, refused, taken, Check}
+use Rattle.std.specs.Prelude.{ℕ, ◌-◌, ◌^◌, List, [], ◌∷◌, length, Bool, not}
+use Rattle.wire.specs.Checks.{◌at_most◌, Check, ◌else◌}
+use Rattle.wire.specs.declared.refusal.Refusal.TheVariants.{Form, Absent, Bound}
+use Rattle.text.specs.Text.{blank}
+use Rattle.decimal.specs.Decimal.{well_formed, value_of}
 use Rattle.names.specs.Names.{name_of, user_of}
 use Rattle.soup.specs.Packet.{Packet, debug, accept, reject, sequenced, server_heartbeat, end_of_session, login, unsequenced}
 use Rattle.soup.specs.Packet.{client_heartbeat, logout}
 use Rattle.soup.specs.declared.reading.Reading.{Reading}
-use Rattle.soup.specs.declared.reading.Reading.TheVariants.{Refused, Debug, Accept, Reject, Sequenced, ServerHeartbeat, EndOfSession}
+use Rattle.soup.specs.declared.reading.Reading.TheVariants.{Debug, Accept, Reject, Sequenced, ServerHeartbeat, EndOfSession}
 use Rattle.soup.specs.declared.reading.Reading.TheVariants.{Login, Unsequenced, ClientHeartbeat, Logout}
 
 -- a payload by its place in the packet, a text by its bytes packed
@@ -23,15 +26,11 @@ packet_of (unsequenced message) = Unsequenced 1 (length message)
 packet_of client_heartbeat = ClientHeartbeat
 packet_of logout = Logout
 
-abbrev pub reading_of : Verdict Packet → Reading
-reading_of (refused n) = Refused n
-reading_of (taken p) = packet_of p
-
--- the number of the first check that fails, 0 if none does
-abbrev pub fault : List Check → ℕ
-fault [] = 0
-fault (c ∷ cs) = if c.test then fault cs else c.number
-
--- a refusal under a number, unless that is 0
-abbrev pub or_refused : ℕ → Reading → Reading
-or_refused n r = if n is 0 then r else Refused n
+-- what is checked of a number beside a text that must be there
+abbrev pub number_checks : (absent : Bool) (number : List ℕ) → List Check
+number_checks absent number =
+    (well_formed number else Form)
+    ∷ (not absent else Absent)
+    ∷ (not (blank number) else Absent)
+    ∷ (value_of number at_most 2 ^ 64 - 1 else Bound)
+    ∷ []

@@ -1,7 +1,7 @@
 // A packet as a line: its only linefeed is its last byte.
 ghost use Rattle.std.specs.Prelude.{◌≡◌, ◌-◌, length};
+ghost use Rattle.wire.specs.Checks.{taken, checked};
 ghost use Rattle.soup.specs.Read.{unbroken, line_checks, sized_checks};
-ghost use Rattle.soup.specs.Reading.{fault};
 
 use wire::refusal::Refusal;
 
@@ -24,38 +24,36 @@ pub fn is_unbroken(s: &[u8]) -> bool
     whole
 }
 
-// The number under which a line is refused, 0 for none.
-pub(crate) fn line_fault(d: &[u8]) -> u8
-    ensures { result ≡ fault (line_checks d.now) }
+pub(crate) fn check(d: &[u8]) -> Result<(), Refusal>
+    ensures { result ≡ checked (line_checks d.now) (taken tt) }
 {
     if d.len() == 0 {
-        return Refusal::Framing;
+        return Err(Refusal::Framing);
     }
     let end = d.len() - 1;
     if d[end] != b'\n' {
-        return Refusal::Framing;
+        return Err(Refusal::Framing);
     }
     if is_unbroken(&d[..end]) {
-        0
+        Ok(())
     } else {
-        Refusal::Linefeed
+        Err(Refusal::Linefeed)
     }
 }
 
 // The same where the type fixes the size.
-pub(crate) fn sized_fault(d: &[u8], size: usize) -> u8
-    ensures { result ≡ fault (sized_checks size d.now) }
+pub(crate) fn check_sized(d: &[u8], size: usize) -> Result<(), Refusal>
+    ensures { result ≡ checked (sized_checks size d.now) (taken tt) }
 {
-    if d.len() == size {
-        line_fault(d)
-    } else {
-        Refusal::Framing
+    if d.len() != size {
+        return Err(Refusal::Framing);
     }
+    check(d)
 }
 
 // How many bytes stand between the type and the linefeed.
 pub(crate) fn payload_length(d: &[u8]) -> usize
     ensures { result ≡ length d.now - 2 }
 {
-    if 2 <= d.len() { d.len() - 2 } else { 0 }
+    d.len().saturating_sub(2)
 }

@@ -1,17 +1,18 @@
 // Reading a packet.
 ghost use Rattle.std.specs.Prelude.{◌≡◌, length};
+ghost use Rattle.wire.specs.Checks.{checked, taken, ◌told_by◌};
+ghost use Rattle.decimal.specs.Decimal.{value_of};
 ghost use Rattle.soup.specs.Read.{line_checks, sized_checks, reject_of, accept_of, login_of, read_reject, read_accept, read_login, read};
-ghost use Rattle.soup.specs.Reading.{reading_of, fault, or_refused};
+ghost use Rattle.soup.specs.Reading.{packet_of, number_checks};
 
 use crate::line;
-use decimal::Number;
+use decimal::Fault;
 use wire::kinds::{Name, Password, Sequence, User};
 use wire::refusal::Refusal;
 
 // What a packet says. A payload is told by its place in the packet.
 #[derive(Clone, Copy)]
 pub enum Reading {
-    Refused(Refusal),
     Debug {
         start: usize,
         length: usize,
@@ -43,139 +44,112 @@ pub enum Reading {
     Logout,
 }
 
-// A packet with a payload, or its refusal.
-fn read_payload(d: &[u8], taken: Reading) -> Reading
-    ensures { result ≡ or_refused (fault (line_checks d.now)) taken }
+// A packet with a payload.
+fn read_payload(d: &[u8], packet: Reading) -> Result<Reading, Refusal>
+    ensures { result ≡ checked (line_checks d.now) (taken packet) }
 {
-    let fault = line::line_fault(d);
-    if fault != 0 {
-        return Reading::Refused(fault);
-    }
-    taken
+    line::check(d)?;
+    Ok(packet)
 }
 
-// A packet that holds nothing, or its refusal.
-fn read_bare(d: &[u8], taken: Reading) -> Reading
-    ensures { result ≡ or_refused (fault (sized_checks 2 d.now)) taken }
+// A packet that holds nothing.
+fn read_bare(d: &[u8], packet: Reading) -> Result<Reading, Refusal>
+    ensures { result ≡ checked (sized_checks 2 d.now) (taken packet) }
 {
-    let fault = line::sized_fault(d, 2);
-    if fault != 0 {
-        return Reading::Refused(fault);
-    }
-    taken
+    line::check_sized(d, 2)?;
+    Ok(packet)
 }
 
-fn reject_of(reason: u8) -> Reading
-    ensures { result ≡ reading_of (reject_of reason) }
+fn reject_of(reason: u8) -> Result<Reading, Refusal>
+    ensures { result ≡ reject_of reason told_by packet_of }
 {
     if (reason == b'A') | (reason == b'S') {
-        Reading::Reject { reason }
+        Ok(Reading::Reject { reason })
     } else {
-        Reading::Refused(Refusal::Form)
+        Err(Refusal::Form)
     }
 }
 
-fn accept_of(session: &[u8], digits: &[u8]) -> Reading
+// The number beside a text that must be there: where either is absent that is told, and only then a number over the bound.
+fn number_of(digits: &[u8], absent: bool) -> Result<u64, Refusal>
+    requires { length digits.now ≡ 20 }
+    ensures { result ≡ checked (number_checks absent digits.now) (taken (value_of digits.now)) }
+{
+    match decimal::read(digits) {
+        Err(Fault::Misshapen) => Err(Refusal::Form),
+        Err(Fault::Blank) => Err(Refusal::Absent),
+        Err(Fault::Over) if absent => Err(Refusal::Absent),
+        Err(Fault::Over) => Err(Refusal::Bound),
+        Ok(_) if absent => Err(Refusal::Absent),
+        Ok(n) => Ok(n),
+    }
+}
+
+fn accept_of(session: &[u8], digits: &[u8]) -> Result<Reading, Refusal>
     requires { (length session.now ≡ 10) × (length digits.now ≡ 20) }
-    ensures { result ≡ reading_of (accept_of session.now digits.now) }
+    ensures { result ≡ accept_of session.now digits.now told_by packet_of }
 {
     if !text::is_spaces_then_text(session) {
-        return Reading::Refused(Refusal::Form);
+        return Err(Refusal::Form);
     }
-    let absent = text::is_blank(session);
-    match decimal::read(digits) {
-        Number::Misshapen => Reading::Refused(Refusal::Form),
-        Number::Blank => Reading::Refused(Refusal::Absent),
-        Number::Over => {
-            if absent {
-                return Reading::Refused(Refusal::Absent);
-            }
-            Reading::Refused(Refusal::Bound)
-        }
-        Number::Is(n) => {
-            if absent | (n == 0) {
-                return Reading::Refused(Refusal::Absent);
-            }
-            Reading::Accept {
-                session: names::get_name(session, 0),
-                number: Sequence(n),
-            }
-        }
+    let number = number_of(digits, text::is_blank(session))?;
+    if number == 0 {
+        return Err(Refusal::Absent);
     }
+    Ok(Reading::Accept {
+        session: names::get_name(session, 0),
+        number: Sequence(number),
+    })
 }
 
-fn login_of(user: &[u8], password: &[u8], session: &[u8], digits: &[u8]) -> Reading
+fn login_of(user: &[u8], password: &[u8], session: &[u8], digits: &[u8]) -> Result<Reading, Refusal>
     requires { (length user.now ≡ 6) × (length password.now ≡ 10) × (length session.now ≡ 10) × (length digits.now ≡ 20) }
-    ensures { result ≡ reading_of (login_of user.now password.now session.now digits.now) }
+    ensures { result ≡ login_of user.now password.now session.now digits.now told_by packet_of }
 {
     let padded = text::is_text_then_spaces(user)
         & text::is_text_then_spaces(password)
         & text::is_spaces_then_text(session);
     if !padded {
-        return Reading::Refused(Refusal::Form);
+        return Err(Refusal::Form);
     }
-    let nameless = text::is_blank(user);
-    match decimal::read(digits) {
-        Number::Misshapen => Reading::Refused(Refusal::Form),
-        Number::Blank => Reading::Refused(Refusal::Absent),
-        Number::Over => {
-            if nameless {
-                return Reading::Refused(Refusal::Absent);
-            }
-            Reading::Refused(Refusal::Bound)
-        }
-        Number::Is(n) => {
-            if nameless {
-                return Reading::Refused(Refusal::Absent);
-            }
-            Reading::Login {
-                user: names::get_user(user, 0),
-                password: Password(names::get_name(password, 0)),
-                session: names::get_name(session, 0),
-                number: Sequence(n),
-            }
-        }
-    }
+    let number = number_of(digits, text::is_blank(user))?;
+    Ok(Reading::Login {
+        user: names::get_user(user, 0),
+        password: Password(names::get_name(password, 0)),
+        session: names::get_name(session, 0),
+        number: Sequence(number),
+    })
 }
 
-fn read_reject(d: &[u8]) -> Reading
-    ensures { result ≡ reading_of (read_reject d.now) }
+fn read_reject(d: &[u8]) -> Result<Reading, Refusal>
+    ensures { result ≡ read_reject d.now told_by packet_of }
 {
-    let fault = line::sized_fault(d, 3);
-    if fault != 0 {
-        return Reading::Refused(fault);
-    }
+    line::check_sized(d, 3)?;
     reject_of(d[1])
 }
 
-fn read_accept(d: &[u8]) -> Reading
-    ensures { result ≡ reading_of (read_accept d.now) }
+fn read_accept(d: &[u8]) -> Result<Reading, Refusal>
+    ensures { result ≡ read_accept d.now told_by packet_of }
 {
-    let fault = line::sized_fault(d, 32);
-    if fault != 0 {
-        return Reading::Refused(fault);
-    }
+    line::check_sized(d, 32)?;
     accept_of(&d[1..11], &d[11..31])
 }
 
-fn read_login(d: &[u8]) -> Reading
-    ensures { result ≡ reading_of (read_login d.now) }
+fn read_login(d: &[u8]) -> Result<Reading, Refusal>
+    ensures { result ≡ read_login d.now told_by packet_of }
 {
-    let fault = line::sized_fault(d, 48);
-    if fault != 0 {
-        return Reading::Refused(fault);
-    }
+    line::check_sized(d, 48)?;
     login_of(&d[1..7], &d[7..17], &d[17..27], &d[27..47])
 }
 
-pub fn read(d: &[u8]) -> Reading
-    ensures { result ≡ reading_of (read d.now) }
+pub fn read(d: &[u8]) -> Result<Reading, Refusal>
+    ensures { result ≡ read d.now told_by packet_of }
 {
     if d.len() == 0 {
-        return Reading::Refused(Refusal::Empty);
+        return Err(Refusal::Empty);
     }
     if line::LONGEST < d.len() {
-        return Reading::Refused(Refusal::Overlong);
+        return Err(Refusal::Overlong);
     }
     let start = 1;
     let length = line::payload_length(d);
@@ -190,6 +164,6 @@ pub fn read(d: &[u8]) -> Reading
         b'U' => read_payload(d, Reading::Unsequenced { start, length }),
         b'R' => read_bare(d, Reading::ClientHeartbeat),
         b'O' => read_bare(d, Reading::Logout),
-        _ => Reading::Refused(Refusal::UnknownType),
+        _ => Err(Refusal::UnknownType),
     }
 }
