@@ -1,5 +1,7 @@
 pub mod Header
 pub mod Verdicts
+pub mod Told
+pub mod Types
 pub mod Taken
 pub mod Exact
 pub mod Carried

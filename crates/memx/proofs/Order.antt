@@ -5,6 +5,7 @@ use mathlib.Core.Path.{◌≡◌, refl}
 use mathlib.Core.Bool.{false}
 use mathlib.Core.List.{List, [], ◌∷◌, ◌++◌}
 use Rattle.wire.specs.Checks.{◌is◌, taken, Check, checked, ordered}
+use Rattle.wire.specs.Refusals.{number_of}
 use Rattle.blocks.specs.Blocks.{messages_of}
 use Rattle.memx.specs.Packet.{messages}
 use Rattle.memx.specs.Read.{kind_in, session_in, number_in, extra_in, blocks_in, header_checks, news_checks, messages_checks, news}
@@ -27,7 +28,7 @@ module _ (d : List ℕ) where
 -- the numbers of some checks, one after the other
 abbrev numbers : List Check → List ℕ
 numbers [] = []
-numbers (c ∷ cs) = c.number ∷ numbers cs
+numbers (c ∷ cs) = number_of c.why ∷ numbers cs
 
 module _ (d : List ℕ) where
   pub order-news : numbers (header_checks d ++ news_checks d) ≡ 1 ∷ 2 ∷ 3 ∷ 4 ∷ 5 ∷ 5 ∷ 4 ∷ 7 ∷ []

@@ -1,4 +1,8 @@
 // A packet's layout: its sizes, its places and its types.
+ghost use Rattle.std.specs.Prelude.{◌≡◌};
+ghost use Rattle.memx.specs.Reading.{kind_of};
+
+use wire::refusal::Refusal;
 
 // The most bytes that a packet may have: a frame of 9,000 less 28 for the headers around it.
 pub const LIMIT: usize = 8972;
@@ -14,9 +18,26 @@ pub const NUMBER: usize = 10;
 pub const BLOCKS: usize = 20;
 // A message's number stays below this one.
 pub const CEILING: u64 = 18446744073709551615;
-// The type of a heartbeat.
-pub const HEARTBEAT: u8 = 0;
-// The type of a shutdown.
-pub const SHUTDOWN: u8 = 1;
-// The type of messages.
-pub const MESSAGES: u8 = 2;
+
+// The types, each with its byte.
+#[derive(Clone, Copy, Debug, PartialEq, Eq)]
+pub enum Kind {
+    Heartbeat = 0,
+    Shutdown = 1,
+    Messages = 2,
+}
+
+impl TryFrom<u8> for Kind {
+    type Error = Refusal;
+
+    ghost try_from_gives = { λ byte outcome. outcome ≡ kind_of byte };
+
+    fn try_from(byte: u8) -> Result<Kind, Refusal> {
+        match byte {
+            0 => Ok(Kind::Heartbeat),
+            1 => Ok(Kind::Shutdown),
+            2 => Ok(Kind::Messages),
+            _ => Err(Refusal::UnknownType),
+        }
+    }
+}

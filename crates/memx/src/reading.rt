@@ -1,122 +1,104 @@
 // Reading a packet.
 ghost use Rattle.std.specs.Prelude.{◌≡◌, ◌≤◌, length};
+ghost use Rattle.wire.specs.Checks.{checked, taken, ◌told_by◌};
 ghost use Rattle.memx.specs.Packet.{header_size};
-ghost use Rattle.memx.specs.Read.{header_in, read_news, read_messages, read};
+ghost use Rattle.memx.specs.Read.{header_in, number_in, count_in, news_checks, messages_checks, read};
 ghost use Rattle.memx.specs.Reading.{memx_of};
+ghost use Rattle.memx.specs.declared.reading.Says.TheVariants.{Messages};
 
 use crate::layout;
+use crate::layout::Kind;
+use wire::fields;
 use wire::kinds::{Sequence, SessionId};
 use wire::refusal::Refusal;
-use wire::fields;
 
 // What a packet says. `extra` is how many bytes the header has past its own fields: they stand from layout::HEADER on, and the
 // blocks of messages begin so many bytes behind layout::BLOCKS.
 #[derive(Clone, Copy)]
-pub enum Memx {
-    Refused(Refusal),
-    Heartbeat {
-        session: SessionId,
-        highest: Sequence,
-        extra: u8,
-    },
-    Shutdown {
-        session: SessionId,
-        highest: Sequence,
-        extra: u8,
-    },
-    Messages {
-        session: SessionId,
-        first: Sequence,
-        count: u16,
-        extra: u8,
-    },
+pub struct Memx {
+    pub session: SessionId,
+    pub extra: u8,
+    pub says: Says,
 }
 
-// Heartbeat and shutdown differ in their type alone.
-fn read_news(kind: u8, d: &[u8]) -> Memx
-    requires { (header_size ≤ length d.now) × (header_size ≤ header_in d.now) }
-    ensures { result ≡ memx_of (read_news kind d.now) }
+// What it says by its type: the highest number published, or the first message's number and how many there are.
+#[derive(Clone, Copy)]
+pub enum Says {
+    Heartbeat(Sequence),
+    Shutdown(Sequence),
+    Messages { first: Sequence, count: u16 },
+}
+
+// A heartbeat and a shutdown say the same.
+fn read_news(d: &[u8]) -> Result<Sequence, Refusal>
+    requires { header_size ≤ length d.now }
+    ensures { result ≡ checked (news_checks d.now) (taken (record { 0 = number_in d.now })) }
 {
     let header = d[1] as usize;
     if d.len() != header {
-        return Memx::Refused(Refusal::Framing);
+        return Err(Refusal::Framing);
     }
     let highest = fields::get8(d, layout::NUMBER);
     if highest == layout::CEILING {
-        return Memx::Refused(Refusal::Bound);
+        return Err(Refusal::Bound);
     }
-    let session = SessionId(fields::get8(d, layout::SESSION));
-    let extra = (header - layout::HEADER) as u8;
-    if kind == layout::HEARTBEAT {
-        Memx::Heartbeat {
-            session,
-            highest: Sequence(highest),
-            extra,
-        }
-    } else {
-        Memx::Shutdown {
-            session,
-            highest: Sequence(highest),
-            extra,
-        }
-    }
+    Ok(Sequence(highest))
 }
 
-fn read_messages(d: &[u8]) -> Memx
+fn read_messages(d: &[u8]) -> Result<Says, Refusal>
     requires { (header_size ≤ length d.now) × (header_size ≤ header_in d.now) }
-    ensures { result ≡ memx_of (read_messages d.now) }
+    ensures { result ≡ checked (messages_checks d.now)
+        (taken (Messages (record { 0 = number_in d.now }) (count_in d.now))) }
 {
     let header = d[1] as usize;
     let place = header + 2;
     if d.len() < place {
-        return Memx::Refused(Refusal::Framing);
+        return Err(Refusal::Framing);
     }
     let count = fields::get2(d, header);
     if !blocks::exactly(d, place, count) {
-        return Memx::Refused(Refusal::Framing);
+        return Err(Refusal::Framing);
     }
     let first = fields::get8(d, layout::NUMBER);
     if first == 0 {
-        return Memx::Refused(Refusal::Absent);
+        return Err(Refusal::Absent);
     }
     if count == 0 {
-        return Memx::Refused(Refusal::Absent);
+        return Err(Refusal::Absent);
     }
     if layout::CEILING - first < count as u64 {
-        return Memx::Refused(Refusal::Bound);
+        return Err(Refusal::Bound);
     }
-    let session = SessionId(fields::get8(d, layout::SESSION));
-    let extra = (header - layout::HEADER) as u8;
-    Memx::Messages {
-        session,
+    Ok(Says::Messages {
         first: Sequence(first),
         count,
-        extra,
-    }
+    })
 }
 
-pub fn read(d: &[u8]) -> Memx
-    ensures { result ≡ memx_of (read d.now) }
+pub fn read(d: &[u8]) -> Result<Memx, Refusal>
+    ensures { result ≡ read d.now told_by memx_of }
 {
     if d.len() == 0 {
-        return Memx::Refused(Refusal::Empty);
+        return Err(Refusal::Empty);
     }
     if layout::LIMIT < d.len() {
-        return Memx::Refused(Refusal::Overlong);
+        return Err(Refusal::Overlong);
     }
-    let kind = d[0];
-    if layout::MESSAGES < kind {
-        return Memx::Refused(Refusal::UnknownType);
-    }
+    let kind = Kind::try_from(d[0])?;
     if d.len() < layout::HEADER {
-        return Memx::Refused(Refusal::Framing);
+        return Err(Refusal::Framing);
     }
     if d[1] < layout::HEADER as u8 {
-        return Memx::Refused(Refusal::Form);
+        return Err(Refusal::Form);
     }
-    if kind == layout::MESSAGES {
-        read_messages(d)
-    } else {
-        read_news(kind, d)
-    }
+    let says = match kind {
+        Kind::Heartbeat => Says::Heartbeat(read_news(d)?),
+        Kind::Shutdown => Says::Shutdown(read_news(d)?),
+        Kind::Messages => read_messages(d)?,
+    };
+    Ok(Memx {
+        session: SessionId(fields::get8(d, layout::SESSION)),
+        extra: d[1] - layout::HEADER as u8,
+        says,
+    })
 }
