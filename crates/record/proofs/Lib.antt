@@ -1,4 +1,5 @@
 pub mod Begun
 pub mod Hanging
 pub mod Complete
+pub mod Lacking
 mod Settled

@@ -1,7 +1,7 @@
 -- The session record: how it is opened, and when it hangs together.
 -- Assumes nothing.
 use Rattle.std.specs.Prelude.{ℕ, ◌+◌, ◌-◌, ◌^◌, [], ◌∷◌, Bool, true, false, not, ◌&&◌}
-use Rattle.wire.specs.Checks.{◌at_most◌, Verdict, refused, taken, ◌else◌, checked}
+use Rattle.wire.specs.Checks.{◌at_most◌, Verdict, taken, ◌else◌, checked}
 use Rattle.names.specs.Names.{name_bytes}
 use Rattle.text.specs.Text.{blank, text_then_spaces}
 use Rattle.wire.specs.declared.kinds.Name.{Name}
@@ -10,8 +10,6 @@ use Rattle.held.specs.Hanging.{in_place}
 use Rattle.record.specs.declared.Session.{Session}
 use Rattle.record.specs.declared.Session.TheVariants.{Ufo, Memx}
 use Rattle.record.specs.declared.Record.{Record}
-use Rattle.record.specs.declared.open.Opened.{Opened}
-use Rattle.record.specs.declared.open.Opened.TheVariants as opened
 
 -- nothing delivered, nothing heard, nothing asked, nothing held
 abbrev pub fresh : Session → Record
@@ -29,10 +27,6 @@ abbrev pub opening : Name → Verdict Record
 opening name =
     checked ((text_then_spaces (name_bytes name) else Form) ∷ (not (blank (name_bytes name)) else Absent) ∷ [])
     (taken (fresh (Ufo name)))
-
-abbrev pub opened_of : Verdict Record → Opened
-opened_of (refused n) = opened.Refused n
-opened_of (taken r) = opened.Record r
 
 -- any number is a MEMX session
 abbrev pub lawful : Session → Bool

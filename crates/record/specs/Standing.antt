@@ -1,7 +1,7 @@
 -- How a record stands.
 -- Assumes nothing.
-use Rattle.std.specs.Prelude.{ℕ, ◌+◌, List, [], ◌∷◌, Bool, ◌&&◌, length, if◌then◌else◌}
-use Rattle.wire.specs.Checks.{◌is◌, ◌at_most◌, Verdict, refused, taken, ◌else◌, checked}
+use Rattle.std.specs.Prelude.{ℕ, ◌+◌, List, [], ◌∷◌, Bool, ◌&&◌, Option, length, slice_get, if◌then◌else◌}
+use Rattle.wire.specs.Checks.{◌is◌, ◌at_most◌, Verdict, taken, ◌else◌, checked}
 use Rattle.wire.specs.declared.refusal.Refusal.TheVariants.{Broken}
 use Rattle.missing.specs.Missing.{◌at◌}
 use Rattle.missing.specs.Missing as ranges
@@ -10,8 +10,6 @@ use Rattle.record.specs.Record.{hangs}
 use Rattle.record.specs.declared.Record.{Record}
 use Rattle.record.specs.declared.standing.Standing.{Standing}
 use Rattle.record.specs.declared.standing.Standing.TheVariants as stands
-use Rattle.record.specs.declared.standing.MissingRange.{MissingRange}
-use Rattle.record.specs.declared.standing.MissingRange.TheVariants as gives
 
 -- complete; nothing missing, but no end heard; or these ranges are missing
 pub data State : Type 0 where
@@ -41,16 +39,11 @@ state r =
 unfoldable pub standing : Record → Verdict State
 standing r = checked ((hangs r else Broken) ∷ []) (taken (state r))
 
-abbrev pub standing_of : Verdict State → Standing
-standing_of (refused n) = stands.Refused n
-standing_of (taken complete) = stands.Complete
-standing_of (taken ongoing) = stands.Ongoing
-standing_of (taken (missing rs)) = stands.Missing (length rs) (rs at 0).first (rs at 0).last
+abbrev pub standing_of : State → Standing
+standing_of complete = stands.Complete
+standing_of ongoing = stands.Ongoing
+standing_of (missing rs) = stands.Missing (length rs) (rs at 0)
 
--- the missing range at a place, counted from 0; noughts where there is none
-unfoldable pub range_at : Record → ℕ → Verdict Range
-range_at r place = checked ((hangs r else Broken) ∷ []) (taken (missing_of r at place))
-
-abbrev pub range_of : Verdict Range → MissingRange
-range_of (refused n) = gives.Refused n
-range_of (taken r) = gives.Range r
+-- the missing range at a place, counted from 0, if there is one
+unfoldable pub range_at : Record → ℕ → Verdict (Option Range)
+range_at r place = checked ((hangs r else Broken) ∷ []) (taken (slice_get (missing_of r) place))

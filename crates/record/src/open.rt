@@ -1,17 +1,11 @@
 // Opening a record.
 ghost use Rattle.std.specs.Prelude.{◌≡◌};
-ghost use Rattle.record.specs.Record.{fresh, opening, opened_of};
+ghost use Rattle.record.specs.Record.{fresh, opening};
 ghost use Rattle.record.specs.declared.Session.TheVariants.{Memx};
 
 use crate::{Record, Session};
 use wire::kinds::{Name, Sequence, SessionId};
 use wire::refusal::Refusal;
-
-#[derive(Clone, Copy)]
-pub enum Opened {
-    Refused(Refusal),
-    Record(Record),
-}
 
 fn fresh(session: Session) -> Record
     ensures { result ≡ fresh session }
@@ -26,16 +20,16 @@ fn fresh(session: Session) -> Record
     }
 }
 
-pub fn open_ufo(name: Name) -> Opened
-    ensures { result ≡ opened_of (opening name) }
+pub fn open_ufo(name: Name) -> Result<Record, Refusal>
+    ensures { result ≡ opening name }
 {
     if !text::is_name_then_spaces(name) {
-        return Opened::Refused(Refusal::Form);
+        return Err(Refusal::Form);
     }
     if text::is_blank_name(name) {
-        return Opened::Refused(Refusal::Absent);
+        return Err(Refusal::Absent);
     }
-    Opened::Record(fresh(Session::Ufo(name)))
+    Ok(fresh(Session::Ufo(name)))
 }
 
 pub fn open_memx(session: SessionId) -> Record

@@ -1,69 +1,48 @@
 // How a record stands: complete, ongoing, or something missing.
 ghost use Rattle.std.specs.Prelude.{◌≡◌};
-ghost use Rattle.record.specs.Standing.{standing, standing_of, range_at, range_of};
+ghost use Rattle.wire.specs.Checks.{◌told_by◌};
+ghost use Rattle.record.specs.Standing.{standing, standing_of, range_at};
 
 use crate::Record;
 use crate::hangs::hangs_together;
 use missing::Range;
-use wire::kinds::Sequence;
 use wire::refusal::Refusal;
 
 #[derive(Clone, Copy)]
 pub enum Standing {
-    Refused(Refusal),
     // Every message up to the end was delivered.
     Complete,
     // Nothing is missing, but no end was heard.
     Ongoing,
     // So many ranges are missing; this is the first of them.
-    Missing {
-        ranges: u8,
-        first: Sequence,
-        last: Sequence,
-    },
+    Missing { ranges: u8, first: Range },
 }
 
-// A missing range, noughts where there is none.
-#[derive(Clone, Copy)]
-pub enum MissingRange {
-    Refused(Refusal),
-    Range(Range),
-}
-
-pub fn standing_of(kept: Record) -> Standing
-    ensures { result ≡ standing_of (standing kept) }
+pub fn standing_of(kept: Record) -> Result<Standing, Refusal>
+    ensures { result ≡ standing kept told_by standing_of }
 {
     if !hangs_together(kept) {
-        return Standing::Refused(Refusal::Broken);
+        return Err(Refusal::Broken);
     }
-    let next = kept.next;
-    let top = kept.top;
-    if next.0 <= top.0 {
-        let range = missing::at(kept.held, next.0, top.0, 0);
-        let ranges = missing::count(kept.held, next.0, top.0);
-        let first = range.first;
-        let last = range.last;
-        return Standing::Missing {
-            ranges,
+    let next = kept.next.0;
+    let top = kept.top.0;
+    Ok(match missing::at(kept.held, next, top, 0) {
+        Some(first) => Standing::Missing {
+            ranges: missing::count(kept.held, next, top),
             first,
-            last,
-        };
-    }
-    if kept.ended {
-        Standing::Complete
-    } else {
-        Standing::Ongoing
-    }
+        },
+        None if kept.ended => Standing::Complete,
+        None => Standing::Ongoing,
+    })
 }
 
-// The missing range at a place, counted from 0.
-pub fn missing_range(kept: Record, place: u64) -> MissingRange
-    ensures { result ≡ range_of (range_at kept place) }
+// The missing range at a place, counted from 0, if there is one.
+pub fn missing_range(kept: Record, place: u64) -> Result<Option<Range>, Refusal>
+    ensures { result ≡ range_at kept place }
 {
-    if !hangs_together(kept) {
-        return MissingRange::Refused(Refusal::Broken);
+    if hangs_together(kept) {
+        Ok(missing::at(kept.held, kept.next.0, kept.top.0, place))
+    } else {
+        Err(Refusal::Broken)
     }
-    let next = kept.next;
-    let top = kept.top;
-    MissingRange::Range(missing::at(kept.held, next.0, top.0, place))
 }
