@@ -1,21 +1,24 @@
--- What a round through the flat fields asks of any protocol: nothing is refused under 0, what was read is lawful, and what was written is
+-- What a round through the flat fields asks of any protocol: what was read is lawful, and what was written is
 -- what its reader takes.
 -- Assumes nothing.
 use Rattle.std.specs.Prelude.{if◌then◌else◌}
 use Prim.Native.Nat.{ℕ, ◌+◌, ◌-◌, ◌^◌, ◌<◌}
-use mathlib.Core.Path.{◌≡◌, refl, sym, ap, ◌∙◌}
+use mathlib.Core.Path.{◌≡◌, refl, sym, ◌∙◌}
 use mathlib.Core.Bool.{true}
 use mathlib.Core.List.{List, [], ◌∷◌}
 use native.Mathlib.Nat.{add-sub_cancel_left}
 use native.Mathlib.Omega.{arith}
-use borrow.Author.Tests.{ne_eqb, eqb-true}
+use borrow.Author.Tests.{ne_eqb, eqb-true, eqb-false}
 use lib.ListN.{length, get_or, take, drop}
 use lib.Seq.{take_all, take-length}
 use Rattle.wire.specs.Fields.{Bytes}
 use Rattle.wire.specs.Checks.{◌is◌, ◌at_most◌, Check, checked, Passed, Verdict, refused, taken}
 use Rattle.wire.specs.Reply.{Reply, within, settle}
-use Rattle.wire.specs.declared.refusal.Refusal.TheVariants.{Overlong}
+use Rattle.wire.specs.Refusals.{number_of}
+use Rattle.wire.specs.declared.refusal.Refusal.{Refusal}
+use Rattle.wire.specs.declared.refusal.Refusal.TheVariants.{Overlong, Framing}
 use Rattle.wire.proofs.Checks.{chosen, not-both, all-passed, passed-all}
+use Rattle.wire.proofs.Numbered.{has-number}
 use Rattle.wire.proofs.Settling.{within-taken, settle-checked}
 use Rattle.wire.proofs.Width.{bytes-cons}
 use Rattle.text.specs.Text.{text_then_spaces, spaces_then_text}
@@ -95,14 +98,14 @@ pub record Flat (p : Packet) : Type 0 where
 
 -- what is told as 0 was taken
 pub told-as-0 : {A : Type 0} (flat : Verdict A → Read) (P : Read → Type 0)
-    → ((n : ℕ) → flat (refused n) ≡ no_packet n)
+    → ((why : Refusal) → flat (refused why) ≡ no_packet why)
     → (v : Verdict A)
-    → (v ≡ refused 0 → ⊥)
     → ((a : A) → v ≡ taken a → P (flat (taken a)))
     → (flat v).refusal ≡ 0
     → P (flat v)
-told-as-0 flat P refuses (refused n) some h e = let z : n ≡ 0 = rw refuses at e in absurd (some (ap refused z))
-told-as-0 flat P refuses (taken a) some h e = h a refl
+told-as-0 flat P refuses (refused why) h e = let z : number_of why ≡ 0 = rw refuses at e in
+    absurd (eqb-false (number_of why) 0 (has-number why) z)
+told-as-0 flat P refuses (taken a) h e = h a refl
 
 -- the flat fields of a packet: its type byte is their kind, and with its body they are written as the same bytes
 abbrev pub Round : (Packet → List ℕ → ℕ → Reply) → List ℕ → Packet → Type 0
@@ -113,28 +116,27 @@ module _ {A : Type 0} (Fit : A → Type 0) (write : A → List ℕ) (flat : ℕ 
   pub rounds : ((q : A) → Fit q → Round reply (write q) (flat (length (write q)) (taken q)).packet)
       → (d : List ℕ) (v : Verdict A)
       → ((q : A) → v ≡ taken q → Fit q × (write q ≡ d))
-      → (v ≡ refused 0 → ⊥)
-      → ((n : ℕ) → flat (length d) (refused n) ≡ no_packet n)
+      → ((why : Refusal) → flat (length d) (refused why) ≡ no_packet why)
       → (flat (length d) v).refusal ≡ 0
       → Round reply d (flat (length d) v).packet
-  rounds lawful d v exact some refuses =
-      told-as-0 (flat (length d)) (λ r. Round reply d r.packet) refuses v some
+  rounds lawful d v exact refuses =
+      told-as-0 (flat (length d)) (λ r. Round reply d r.packet) refuses v
       (λ q e. let l = exact q e in rw (← l.1) (lawful q l.0))
 
 -- ---- what was written: a reply that was given
 
 -- no packet that can't be, and no body with a type that has none
-pub unfit-not-given : {C : Type 0} (limit size n : ℕ) (d : List ℕ) → unfit limit size n ≡ taken d → C
-unfit-not-given limit size n d =
-    chosen (size at_most limit) (refused n) (refused Overlong) (taken d)
-    (λ _. not-both (refused n) n d refl)
-    (λ _. not-both (refused Overlong) 2 d refl)
+pub unfit-not-given : {C : Type 0} (limit size : ℕ) (why : Refusal) (d : List ℕ) → unfit limit size why ≡ taken d → C
+unfit-not-given limit size why d =
+    chosen (size at_most limit) (refused why) (refused Overlong) (taken d)
+    (λ _. not-both (refused why) why d refl)
+    (λ _. not-both (refused Overlong) Overlong d refl)
 
 pub given-no-body : (limit size : ℕ) (body : List ℕ) (reply : Reply) (d : List ℕ) → alone limit size body reply ≡ taken d
     → (body ≡ []) × (reply ≡ taken d)
 given-no-body limit size [] reply d e = (refl, e)
 given-no-body limit size (x ∷ body) reply d e =
-    unfit-not-given limit (size + length (x ∷ body)) 4 d (rw (ne_eqb (length (x ∷ body)) 0 (λ z. omega arith)) at e)
+    unfit-not-given limit (size + length (x ∷ body)) Framing d (rw (ne_eqb (length (x ∷ body)) 0 (λ z. omega arith)) at e)
 
 -- one of the types
 pub given-by-kind : (P : ℕ → Type 0) (kind n : ℕ) (x y : Reply) (d : List ℕ) → (x ≡ taken d → P n) → (y ≡ taken d → P kind)

@@ -6,15 +6,16 @@ use mathlib.Core.Path.{◌≡◌, refl}
 use mathlib.Core.Bool.{Bool, true, false}
 use mathlib.Core.List.{List}
 use lib.Dec.{leb}
-use Rattle.wire.specs.Checks.{refused}
+use Rattle.wire.specs.Checks.{Verdict, refused}
 use Rattle.wire.specs.Reply.{Reply, answer_of, left_of, Settled}
+use Rattle.wire.specs.declared.refusal.Refusal.{Refusal}
 use Rattle.wire.specs.declared.refusal.Refusal.TheVariants.{Overlong}
 use Rattle.flat_packet.specs.Fitting.{unfit}
 
-leaves : (b : Bool) (n : ℕ) (out : List ℕ) → out ≡ left_of (if b then refused n else refused Overlong) out
-leaves true n out = refl
-leaves false n out = refl
+leaves : (b : Bool) (why : Refusal) (out : List ℕ) → out ≡ left_of (if b then refused why else refused Overlong) out
+leaves true why out = refl
+leaves false why out = refl
 
-pub unfits : (reply : Reply) (out : List ℕ) (limit size n : ℕ) (r : Verdict ℕ) → reply ≡ unfit limit size n
-    → r ≡ answer_of (unfit limit size n) → Settled reply out r out
-unfits reply out limit size n r e a = rw e (record { answer = a; bytes = leaves (leb size limit) n out })
+pub unfits : (reply : Reply) (out : List ℕ) (limit size : ℕ) (why : Refusal) (r : Verdict ℕ) → reply ≡ unfit limit size why
+    → r ≡ answer_of (unfit limit size why) → Settled reply out r out
+unfits reply out limit size why r e a = rw e (record { answer = a; bytes = leaves (leb size limit) why out })

@@ -1,6 +1,8 @@
 -- One packet or message, laid flat: the fields that its type lacks are 0.
 -- Assumes nothing.
 use Rattle.std.specs.Prelude.{ℕ, ◌-◌, List, replicate}
+use Rattle.wire.specs.Refusals.{number_of}
+use Rattle.wire.specs.declared.refusal.Refusal.{Refusal}
 use Rattle.flat_packet.specs.declared.Packet.{Packet}
 use Rattle.flat_packet.specs.declared.Read.{Read}
 
@@ -25,8 +27,8 @@ nothing = record {
 }
 
 -- on a refusal every other number is 0
-abbrev pub no_packet : ℕ → Read
-no_packet n = record { refusal = n; packet = nothing }
+abbrev pub no_packet : Refusal → Read
+no_packet why = record { refusal = number_of why; packet = nothing }
 
 abbrev pub the_packet : Packet → Read
 the_packet p = record { refusal = 0; packet = p }

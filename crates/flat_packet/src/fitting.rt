@@ -6,14 +6,11 @@ ghost use Rattle.flat_packet.specs.Fitting.{unfit};
 use wire::refusal::Refusal;
 
 // The packet has `size` bytes without the body.
-pub fn unfit(limit: usize, size: usize, body: &[u8], number: u8) -> Result<usize, Refusal>
-    ensures { result ≡ answer_of (unfit limit (size + length body.now) number) }
+pub fn unfit(limit: usize, size: usize, body: &[u8], why: Refusal) -> Result<usize, Refusal>
+    ensures { result ≡ answer_of (unfit limit (size + length body.now) why) }
 {
-    if limit < size {
+    if limit < size || limit - size < body.len() {
         return Err(Refusal::Overlong);
     }
-    if limit - size < body.len() {
-        return Err(Refusal::Overlong);
-    }
-    Err(number)
+    Err(why)
 }

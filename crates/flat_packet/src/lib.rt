@@ -7,6 +7,8 @@ ghost use Rattle.std.specs.Prelude.{◌≡◌, ◌-◌};
 ghost use Rattle.flat_packet.specs.Packets.{nothing, bare, named, rejected, payload, logged_in, numbered, counted, broadcast};
 ghost use Rattle.flat_packet.specs.Packets.{requested, no_packet, the_packet};
 
+use wire::refusal::Refusal;
+
 // kind: the type byte of the wire. extra: in MEMX-UDP how many bytes the header has past its own fields.
 #[repr(C)]
 #[derive(Clone, Copy)]
@@ -32,7 +34,8 @@ pub struct Read {
     pub packet: Packet,
 }
 
-fn nothing() -> Packet
+// A packet that isn't there.
+pub fn nothing() -> Packet
     ensures { result ≡ nothing }
 {
     Packet {
@@ -51,13 +54,12 @@ fn nothing() -> Packet
     }
 }
 
-pub fn no_packet(number: u8) -> Read
-    ensures { result ≡ no_packet number }
+pub fn no_packet(why: Refusal) -> Read
+    ensures { result ≡ no_packet why }
 {
-    let packet = nothing();
     Read {
-        refusal: number as u64,
-        packet,
+        refusal: why.number() as u64,
+        packet: nothing(),
     }
 }
 
@@ -76,44 +78,48 @@ pub fn bare(kind: u8, next: u64) -> Read
 pub fn named(name: [u8; 10], number: u64) -> Read
     ensures { result ≡ named name number }
 {
-    let mut p = nothing();
-    p.kind = b'A';
-    p.name = name;
-    p.number = number;
-    the_packet(p)
+    the_packet(Packet {
+        kind: b'A',
+        name,
+        number,
+        ..nothing()
+    })
 }
 
 pub fn rejected(reason: u8) -> Read
     ensures { result ≡ rejected reason }
 {
-    let mut p = nothing();
-    p.kind = b'J';
-    p.reason = reason;
-    the_packet(p)
+    the_packet(Packet {
+        kind: b'J',
+        reason,
+        ..nothing()
+    })
 }
 
 pub fn payload(kind: u8, start: u64, length: u64, next: u64) -> Read
     ensures { result ≡ payload kind start length next }
 {
-    let mut p = nothing();
-    p.kind = kind;
-    p.start = start;
-    p.length = length;
-    p.next = next;
-    the_packet(p)
+    the_packet(Packet {
+        kind,
+        start,
+        length,
+        next,
+        ..nothing()
+    })
 }
 
 pub fn logged_in(user: [u8; 6], password: [u8; 10], name: [u8; 10], number: u64, next: u64) -> Read
     ensures { result ≡ logged_in user password name number next }
 {
-    let mut p = nothing();
-    p.kind = b'L';
-    p.user = user;
-    p.password = password;
-    p.name = name;
-    p.number = number;
-    p.next = next;
-    the_packet(p)
+    the_packet(Packet {
+        kind: b'L',
+        user,
+        password,
+        name,
+        number,
+        next,
+        ..nothing()
+    })
 }
 
 pub fn numbered(kind: u8, session: u64, number: u64) -> Read
@@ -141,35 +147,26 @@ pub fn broadcast(
 ) -> Read
     ensures { result ≡ broadcast kind session number count extra start size }
 {
-    let length = past(start, size);
-    let mut p = nothing();
-    p.kind = kind;
-    p.session = session;
-    p.number = number;
-    p.count = count;
-    p.start = start;
-    p.length = length;
-    p.extra = extra;
-    the_packet(p)
+    the_packet(Packet {
+        kind,
+        session,
+        number,
+        count,
+        start,
+        length: size.saturating_sub(start),
+        extra,
+        ..nothing()
+    })
 }
 
 pub fn requested(kind: u8, number: u64, count: u16, next: u64) -> Read
     ensures { result ≡ requested kind number count next }
 {
-    let mut p = nothing();
-    p.kind = kind;
-    p.number = number;
-    p.count = count;
-    p.next = next;
-    the_packet(p)
-}
-
-// How many bytes stand from a place on.
-fn past(place: u64, size: u64) -> u64
-    ensures { result ≡ size - place }
-{
-    if size < place {
-        return 0;
-    }
-    size - place
+    the_packet(Packet {
+        kind,
+        number,
+        count,
+        next,
+        ..nothing()
+    })
 }

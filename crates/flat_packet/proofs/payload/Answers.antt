@@ -1,4 +1,0 @@
-use Rattle.flat_packet.proofs.payload.Goals as goal
-
-pub returns : goal.returns
-returns c = rw (c.the_packet.ensures, c.nothing-p.ensures)
