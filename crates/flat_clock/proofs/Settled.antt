@@ -3,6 +3,8 @@
 use Rattle.wire.proofs.Outcomes.{Answered, same_answer}
 use Rattle.flat_clock.proofs.sheet_of.Kinds as sheet-of
 use Rattle.flat_clock.proofs.sheet_of.Reads as sheet-of-reads
+use Rattle.flat_clock.proofs.known_sheet.Kinds as known-sheet
+use Rattle.flat_clock.proofs.known_sheet.Reads as known-sheet-reads
 use Rattle.flat_clock.proofs.rule_of.Kinds as rule-of
 use Rattle.flat_clock.proofs.rule_of.Reads as rule-of-reads
 use Rattle.flat_clock.proofs.time.Kinds as time
@@ -16,6 +18,9 @@ use Rattle.flat_clock.proofs.heartbeat_due.Reads as heartbeat-due-reads
 
 sheet-of-is : Answered 0 sheet-of.ps sheet-of.r sheet-of-reads.Post
 sheet-of-is κs a x y s t = same_answer
+
+known-sheet-is : Answered 0 known-sheet.ps known-sheet.r known-sheet-reads.Post
+known-sheet-is κs a x y s t = same_answer
 
 rule-of-is : Answered 0 rule-of.ps rule-of.r rule-of-reads.Post
 rule-of-is κs a x y s t = same_answer

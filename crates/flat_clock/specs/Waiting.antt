@@ -1,22 +1,16 @@
 -- Sheets, wait rules, and what the clock answers.
 -- Assumes nothing.
-use Rattle.std.specs.Prelude.{ℕ, [], ◌∷◌, Float, if◌then◌else◌}
-use Rattle.wire.specs.Checks.{◌is◌, Verdict, taken, ◌else◌, checked, ◌into◌}
+use Rattle.std.specs.Prelude.{ℕ, [], ◌∷◌, Bool, Option, Some, None, Float, if◌then◌else◌}
+use Rattle.wire.specs.Checks.{◌is◌, Verdict, refused, taken, ◌else◌, checked, ◌into◌}
+use Rattle.wire.specs.Refusals.{number_of}
 use Rattle.wire.specs.declared.refusal.Refusal.TheVariants.{Broken}
-use Rattle.clock.specs.Answer.{said_of}
 use Rattle.clock.specs.Milliseconds.{whole}
-use Rattle.clock.specs.Patience.{waiting, wait_of}
-use Rattle.clock.specs.Sheet.{timing, timed_of}
+use Rattle.clock.specs.Patience.{waiting}
+use Rattle.clock.specs.Sheet.{timing}
 use Rattle.silence.specs.Silence.{exceeds}
-use Rattle.clock.specs.declared.answer.Said.{Said}
-use Rattle.clock.specs.declared.answer.Said.TheVariants as said
 use Rattle.clock.specs.declared.sheet.Sheet.{Sheet}
-use Rattle.clock.specs.declared.sheet.Timed.{Timed}
-use Rattle.clock.specs.declared.sheet.Timed.TheVariants as timed
 use Rattle.clock.specs.declared.patience.Patience.{Patience}
 use Rattle.clock.specs.declared.patience.Patience.TheVariants.{Never, Fixed, Measured}
-use Rattle.clock.specs.declared.patience.Wait.{Wait}
-use Rattle.clock.specs.declared.patience.Wait.TheVariants as wait
 use Rattle.flat.specs.Flag.{is_flag, says, byte_of}
 use Rattle.flat_clock.specs.declared.FlatSheet.{FlatSheet}
 use Rattle.flat_clock.specs.declared.FlatPatience.{FlatPatience}
@@ -35,9 +29,9 @@ abbrev pub flat_sheet : Sheet → FlatSheet
 flat_sheet s = record { mean = s.mean; spread = s.spread; timed = byte_of s.timed }
 
 -- on a refusal the sheet that was given
-abbrev pub flat_timed : FlatSheet → Timed → FlatTimed
-flat_timed given (timed.Refused n) = record { refusal = n; sheet = given }
-flat_timed given (timed.Sheet after) = record { refusal = 0; sheet = flat_sheet after }
+abbrev pub flat_timed : FlatSheet → Verdict Sheet → FlatTimed
+flat_timed given (refused why) = record { refusal = number_of why; sheet = given }
+flat_timed given (taken after) = record { refusal = 0; sheet = flat_sheet after }
 
 -- 0 never; 1 fixed; 2 measured, the floor first; another is taken for a wait of 0, which is out of range
 abbrev pub rule_of : FlatPatience → Patience
@@ -47,25 +41,24 @@ rule_of p =
     if p.rule is 2 then Measured p.first p.second else
     Fixed (whole 0)
 
-abbrev pub flat_wait : Wait → FlatWait
-flat_wait (wait.Refused n) = record { refusal = n; waits = 0; milliseconds = whole 0 }
-flat_wait wait.Never = record { refusal = 0; waits = 0; milliseconds = whole 0 }
-flat_wait (wait.After w) = record { refusal = 0; waits = 1; milliseconds = w }
+abbrev pub flat_wait : Verdict (Option Float) → FlatWait
+flat_wait (refused why) = record { refusal = number_of why; waits = 0; milliseconds = whole 0 }
+flat_wait (taken None) = record { refusal = 0; waits = 0; milliseconds = whole 0 }
+flat_wait (taken (Some w)) = record { refusal = 0; waits = 1; milliseconds = w }
 
-abbrev pub flat_said : Said → FlatSaid
-flat_said (said.Refused n) = record { refusal = n; yes = 0 }
-flat_said said.Yes = record { refusal = 0; yes = 1 }
-flat_said said.No = record { refusal = 0; yes = 0 }
+abbrev pub flat_said : Verdict Bool → FlatSaid
+flat_said (refused why) = record { refusal = number_of why; yes = 0 }
+flat_said (taken so) = record { refusal = 0; yes = byte_of so }
 
 -- the entries: a flag that is none is 10, before all else
 abbrev pub time_answer : FlatSheet → Float → FlatTimed
-time_answer given sample = flat_timed given (timed_of (known_sheet given into λ s. timing s sample))
+time_answer given sample = flat_timed given (known_sheet given into λ s. timing s sample)
 
 abbrev pub wait_answer : FlatSheet → FlatPatience → FlatWait
-wait_answer given patience = flat_wait (wait_of (known_sheet given into λ s. waiting s (rule_of patience)))
+wait_answer given patience = flat_wait (known_sheet given into λ s. waiting s (rule_of patience))
 
 abbrev pub line_lost : (now heard : ℕ) → FlatSaid
-line_lost now heard = flat_said (said_of (exceeds 10000 (record { 0 = now }) (record { 0 = heard })))
+line_lost now heard = flat_said (exceeds 10000 (record { 0 = now }) (record { 0 = heard }))
 
 abbrev pub heartbeat_due : (now sent : ℕ) → FlatSaid
-heartbeat_due now sent = flat_said (said_of (exceeds 1000 (record { 0 = now }) (record { 0 = sent })))
+heartbeat_due now sent = flat_said (exceeds 1000 (record { 0 = now }) (record { 0 = sent }))

@@ -2,12 +2,11 @@
 #![tactic(auto)]
 
 ghost use Rattle.std.specs.Prelude.{◌≡◌};
-ghost use Rattle.flat_clock.specs.Waiting.{sheet_of, flat_sheet, flat_timed, rule_of, flat_wait, flat_said, time_answer, wait_answer};
-ghost use Rattle.flat_clock.specs.Waiting.{line_lost, heartbeat_due};
+ghost use Rattle.flat_clock.specs.Waiting.{sheet_of, known_sheet, flat_sheet, flat_timed, rule_of, flat_wait, flat_said};
+ghost use Rattle.flat_clock.specs.Waiting.{time_answer, wait_answer, line_lost, heartbeat_due};
 
-use clock::answer::Said;
-use clock::patience::{Patience, Wait};
-use clock::sheet::{Sheet, Timed};
+use clock::patience::Patience;
+use clock::sheet::Sheet;
 use clock::{patience, sheet};
 use flat::flag;
 use wire::kinds::Tick;
@@ -62,6 +61,17 @@ pub fn sheet_of(given: FlatSheet) -> Sheet
     }
 }
 
+// The sheet that a flat one is, if its flag is one.
+pub fn known_sheet(given: FlatSheet) -> Result<Sheet, Refusal>
+    ensures { result ≡ known_sheet given }
+{
+    if flag::is_flag(given.timed) {
+        Ok(sheet_of(given))
+    } else {
+        Err(Refusal::Broken)
+    }
+}
+
 fn flat_sheet(sheet: Sheet) -> FlatSheet
     ensures { result ≡ flat_sheet sheet }
 {
@@ -72,27 +82,26 @@ fn flat_sheet(sheet: Sheet) -> FlatSheet
     }
 }
 
-fn flat_timed(given: FlatSheet, answer: Timed) -> FlatTimed
+fn flat_timed(given: FlatSheet, answer: Result<Sheet, Refusal>) -> FlatTimed
     ensures { result ≡ flat_timed given answer }
 {
     match answer {
-        Timed::Refused(number) => FlatTimed {
-            refusal: number as u64,
+        Err(why) => FlatTimed {
+            refusal: why.number() as u64,
             sheet: given,
         },
-        Timed::Sheet(after) => FlatTimed {
+        Ok(after) => FlatTimed {
             refusal: 0,
             sheet: flat_sheet(after),
         },
     }
 }
 
-// A rule that the desk doesn't know is refused as one out of range is: it is handed on as a wait of nothing.
+// A rule that the desk doesn't know is handed on as a wait of nothing, so that it is refused as one out of range is, after a broken sheet.
 pub fn rule_of(given: FlatPatience) -> Patience
     ensures { result ≡ rule_of given }
 {
-    let rule = given.rule;
-    match rule {
+    match given.rule {
         0 => Patience::Never,
         1 => Patience::Fixed(given.first),
         2 => Patience::Measured(given.first, given.second),
@@ -100,21 +109,21 @@ pub fn rule_of(given: FlatPatience) -> Patience
     }
 }
 
-fn flat_wait(wait: Wait) -> FlatWait
+fn flat_wait(wait: Result<Option<f64>, Refusal>) -> FlatWait
     ensures { result ≡ flat_wait wait }
 {
     match wait {
-        Wait::Refused(number) => FlatWait {
-            refusal: number as u64,
+        Err(why) => FlatWait {
+            refusal: why.number() as u64,
             waits: 0,
             milliseconds: 0.0,
         },
-        Wait::Never => FlatWait {
+        Ok(None) => FlatWait {
             refusal: 0,
             waits: 0,
             milliseconds: 0.0,
         },
-        Wait::After(milliseconds) => FlatWait {
+        Ok(Some(milliseconds)) => FlatWait {
             refusal: 0,
             waits: 1,
             milliseconds,
@@ -122,37 +131,34 @@ fn flat_wait(wait: Wait) -> FlatWait
     }
 }
 
-fn flat_said(said: Said) -> FlatSaid
+fn flat_said(said: Result<bool, Refusal>) -> FlatSaid
     ensures { result ≡ flat_said said }
 {
     match said {
-        Said::Refused(number) => FlatSaid {
-            refusal: number as u64,
+        Err(why) => FlatSaid {
+            refusal: why.number() as u64,
             yes: 0,
         },
-        Said::Yes => FlatSaid { refusal: 0, yes: 1 },
-        Said::No => FlatSaid { refusal: 0, yes: 0 },
+        Ok(yes) => FlatSaid {
+            refusal: 0,
+            yes: flag::byte_of(yes),
+        },
     }
 }
 
 pub fn time(given: FlatSheet, sample: f64) -> FlatTimed
     ensures { result ≡ time_answer given sample }
 {
-    if flag::is_flag(given.timed) {
-        flat_timed(given, sheet::time(sheet_of(given), sample))
-    } else {
-        flat_timed(given, Timed::Refused(Refusal::Broken))
-    }
+    flat_timed(
+        given,
+        known_sheet(given).and_then(|sheet| sheet::time(sheet, sample)),
+    )
 }
 
 pub fn wait_of(given: FlatSheet, patience: FlatPatience) -> FlatWait
     ensures { result ≡ wait_answer given patience }
 {
-    if flag::is_flag(given.timed) {
-        flat_wait(patience::wait_of(sheet_of(given), rule_of(patience)))
-    } else {
-        flat_wait(Wait::Refused(Refusal::Broken))
-    }
+    flat_wait(known_sheet(given).and_then(|sheet| patience::wait_of(sheet, rule_of(patience))))
 }
 
 pub fn line_lost(now: u64, heard: u64) -> FlatSaid

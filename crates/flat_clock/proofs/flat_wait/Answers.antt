@@ -1,13 +1,11 @@
 use lib.Ieee.{of_bits, round}
+use Rattle.std.proofs.Common.{rules}
 use Rattle.flat_clock.proofs.flat_wait.Goals as goal
 
-pub returns-in-Refused : goal.returns-in-Refused
+pub returns-in-Err : goal.returns-in-Err
 unfolding of_bits round
-returns-in-Refused c = rw c.in-Refused.is
+returns-in-Err c = search rules
 
-pub returns-in-Never : goal.returns-in-Never
+pub returns-in-Ok-None : goal.returns-in-Ok-None
 unfolding of_bits round
-returns-in-Never c = rw c.in-Never.is
-
-pub returns-in-After : goal.returns-in-After
-returns-in-After c = rw c.in-After.is
+returns-in-Ok-None c = search rules
