@@ -1,6 +1,4 @@
-// What a line of the book says: bytes, and a number behind `>`.
-ghost use Rattle.std.specs.Prelude.{◌≤◌, length};
-
+// The bytes that a text spells.
 use crate::hex;
 
 // How many runs a text has at most, with one more piece behind the last.
@@ -14,8 +12,8 @@ fn repeat(out: &mut [u8], put: usize, times: usize) -> Option<usize> {
     last.checked_add(times)
 }
 
-// Puts what a text spells up to the end of its first run, and answers how many bytes that are, and the text behind it. `5A*1463` is a
-// run: the byte 5A, 1,463 times.
+// Puts what a text spells up to the end of its first run, and answers how many bytes that are, and the text behind it. `5A*1463` is
+// a run: the byte 5A, 1,463 times.
 fn first_run<'a>(text: &'a str, out: &mut [u8]) -> (usize, &'a str) {
     let Some((front, back)) = text.split_once('*') else {
         return (hex::decode(text.as_bytes(), out), "");
@@ -43,18 +41,4 @@ pub fn bytes<'a>(text: &str, out: &'a mut [u8]) -> &'a [u8] {
         }
     }
     out.get(..count).unwrap_or(&[])
-}
-
-// The number behind `>`, if there is one.
-pub fn behind_mark(text: &str) -> Option<usize> {
-    let (_, behind) = text.split_once('>')?;
-    behind.trim_ascii().parse().ok()
-}
-
-// The text in front of `>`.
-pub fn before_mark(text: &str) -> &str {
-    match text.split_once('>') {
-        Some((before, _)) => before,
-        None => text,
-    }
 }

@@ -1,198 +1,152 @@
 // The lending end: a log over lent bytes, and what goes out when its messages are asked for.
 #![tactic(auto)]
 
-use wire::refusal::Refusal;
-use book_lines::{entry, numbers, scan};
+use book_lines::line::Line;
+use book_lines::{entry, numbers};
 use book_page::page;
-use lent_log::{Log, Logged};
+use lent_log::Log;
 use std::io;
-use wire::fields;
 use wire::kinds::Sequence;
+use wire::refusal::Refusal;
 
-// A log, and how many bytes are lent to it.
-#[derive(Clone, Copy)]
+const EMPTY: Log = Log {
+    count: 0,
+    used: 0,
+    ended: false,
+};
+
+// A log, the bytes that lie ready for it, and how many of those are lent.
+#[derive(Drop)]
 pub struct Shelf {
     log: Log,
+    lent: [u8; page::ROOM],
     size: usize,
 }
 
-pub fn empty(size: usize) -> Shelf {
-    Shelf {
-        log: Log {
-            count: 0,
-            used: 0,
-            ended: false,
-        },
-        size,
-    }
-}
-
 fn tell(rt: &impl Print, log: Log) -> io::Result<()> {
-    page::number(rt, b"\n= messages ", log.count)?;
-    page::number(rt, b", bytes ", log.used as u64)?;
+    print!(rt; "\n= messages {}, bytes {}", log.count, log.used)?;
     if log.ended {
-        page::words(rt, b", ended yes")
+        print!(rt; ", ended yes")
     } else {
-        page::words(rt, b", ended no")
-    }
-}
-
-fn open(rt: &impl Print, size: usize) -> io::Result<Shelf> {
-    let shelf = empty(size);
-    tell(rt, shelf.log)?;
-    Ok(shelf)
-}
-
-// A log as the line says: its numbers, and behind the word `bytes` what is lent.
-fn given(rt: &impl Print, text: &[u8], lent: &mut [u8]) -> io::Result<Shelf> {
-    let log = Log {
-        count: numbers::whole(text, 0),
-        used: numbers::whole(text, 1) as usize,
-        ended: numbers::whole(text, 2) == 1,
-    };
-    let word = scan::find(text, b'b');
-    let size = entry::bytes(&text[word..], lent);
-    tell(rt, log)?;
-    if size <= lent.len() {
-        if !lent_log::hangs_together(log, &lent[0..size]) {
-            page::words(rt, b", refused 10")?;
-        }
-    }
-    Ok(Shelf { log, size })
-}
-
-// The log afterwards; after a refusal it is the one before.
-fn entered(rt: &impl Print, said: Logged, shelf: Shelf) -> io::Result<Shelf> {
-    match said {
-        Logged::Refused(n) => {
-            page::refused(rt, n)?;
-            Ok(shelf)
-        }
-        Logged::After(log) => {
-            tell(rt, log)?;
-            Ok(Shelf {
-                log,
-                size: shelf.size,
-            })
-        }
+        print!(rt; ", ended no")
     }
 }
 
 // The packet that a line asks for.
-fn packet(letter: u8, text: &[u8], log: Log, bytes: &[u8], out: &mut [u8]) -> Result<usize, Refusal> {
-    match letter {
-        b'g' => {
-            let first = Sequence(numbers::whole(text, 0));
-            let count = (numbers::whole(text, 1) % 65536) as u16;
+fn packet(line: &Line<'_>, log: Log, bytes: &[u8], out: &mut [u8]) -> Result<usize, Refusal> {
+    match line.command() {
+        "give" => {
+            let first = Sequence(numbers::whole(line.text, 0));
+            let count = (numbers::whole(line.text, 1) % 65536) as u16;
             lend::answer(log, bytes, first, count, out)
         }
-        b'b' => lend::heartbeat(log, bytes, out),
+        "beat" => lend::heartbeat(log, bytes, out),
         _ => lend::end_packet(log, bytes, out),
     }
 }
 
-fn send(
-    rt: &impl Print,
-    letter: u8,
-    text: &[u8],
-    log: Log,
-    bytes: &[u8],
-    room: usize,
-) -> io::Result<()> {
+fn send(rt: &impl Print, line: &Line<'_>, log: Log, bytes: &[u8]) -> io::Result<()> {
     let mut out = [page::UNTOUCHED; page::ROOM];
-    if room <= page::ROOM {
-        let said = packet(letter, text, log, bytes, &mut out[0..room]);
-        page::wrote(rt, b"\n= sent, bytes ", said, &out)?;
+    if let Some(lent) = out.get_mut(..line.mark.unwrap_or(page::ROOM)) {
+        let said = packet(line, log, bytes, lent);
+        page::wrote(rt, "\n= sent, bytes ", said, &out)?;
     }
     Ok(())
 }
 
-// What a line does with a log over all of the bytes.
-fn use_log(
-    rt: &impl Print,
-    letter: u8,
-    text: &[u8],
-    d: &[u8],
-    room: usize,
-    shelf: Shelf,
-    bytes: &mut [u8],
-) -> io::Result<Shelf> {
-    let log = shelf.log;
-    match letter {
-        b'a' => entered(rt, lent_log::add(log, bytes, d), shelf),
-        b'm' => entered(rt, lent_log::add_many(log, bytes, d), shelf),
-        b'e' => entered(rt, lent_log::declare_end(log, bytes), shelf),
-        _ => {
-            send(rt, letter, text, log, bytes, room)?;
-            Ok(shelf)
-        }
-    }
+// A message, and one that says HI.
+fn two(bytes: &mut [u8], message: &[u8]) -> Result<Log, Refusal> {
+    let log = lent_log::add(EMPTY, bytes, message)?;
+    lent_log::add(log, bytes, b"HI")
 }
 
-// The log after a line, whose second word's first letter says what is done.
-fn log_line(
-    rt: &impl Print,
-    text: &[u8],
-    d: &[u8],
-    room: usize,
-    shelf: Shelf,
-    lent: &mut [u8],
-) -> io::Result<Shelf> {
-    if text.len() < 5 {
-        return Ok(shelf);
+impl Shelf {
+    pub fn empty() -> Shelf {
+        Shelf {
+            log: EMPTY,
+            lent: [0; page::ROOM],
+            size: 0,
+        }
     }
-    let letter = text[4];
-    match letter {
-        b'o' => open(rt, numbers::whole(text, 0) as usize),
-        b'i' => given(rt, text, lent),
-        _ => {
-            let size = shelf.size;
-            if lent.len() < size {
-                return Ok(shelf);
+
+    // A log as the line says: its numbers, and behind the word `bytes` what is lent.
+    fn given(&mut self, rt: &impl Print, text: &str) -> io::Result<()> {
+        let log = Log {
+            count: numbers::whole(text, 0),
+            used: numbers::whole(text, 1) as usize,
+            ended: numbers::whole(text, 2) == 1,
+        };
+        let (_, said) = text.split_once("bytes").unwrap_or((text, ""));
+        let bytes = entry::bytes(said, &mut self.lent);
+        tell(rt, log)?;
+        if !lent_log::hangs_together(log, bytes) {
+            print!(rt; ", refused {}", Refusal::Broken.number())?;
+        }
+        self.size = bytes.len();
+        self.log = log;
+        Ok(())
+    }
+
+    // After a refusal the log is the one before.
+    fn entered(&mut self, rt: &impl Print, said: Result<Log, Refusal>) -> io::Result<()> {
+        match said {
+            Err(why) => page::refused(rt, why),
+            Ok(log) => {
+                self.log = log;
+                tell(rt, log)
             }
-            use_log(rt, letter, text, d, room, shelf, &mut lent[0..size])
         }
     }
-}
 
-// A message of some length and one that says HI are added, and both are asked for. Two bytes say how long it is; it is all zeros.
-fn both(rt: &impl Print, d: &[u8], lent: &mut [u8]) -> io::Result<()> {
-    let zeros = [0u8; 2000];
-    if d.len() < 2 {
-        return Ok(());
+    // What a line does with a log over the bytes that are lent.
+    fn used(&mut self, rt: &impl Print, line: &Line<'_>) -> io::Result<()> {
+        let log = self.log;
+        let Some(bytes) = self.lent.get_mut(..self.size) else {
+            return Ok(());
+        };
+        let said = match line.command() {
+            "add" => lent_log::add(log, bytes, line.bytes),
+            "many" => lent_log::add_many(log, bytes, line.bytes),
+            "end" => lent_log::declare_end(log, bytes),
+            _ => return send(rt, line, log, bytes),
+        };
+        self.entered(rt, said)
     }
-    let length = fields::get2(d, 0) as usize;
-    if length <= 2000 {
-        match lent_log::add(empty(0).log, lent, &zeros[0..length]) {
-            Logged::Refused(n) => page::refused(rt, n)?,
-            Logged::After(log) => match lent_log::add(log, lent, b"HI") {
-                Logged::Refused(n) => page::refused(rt, n)?,
-                Logged::After(log) => send(rt, b'g', b"1 2", log, lent, page::ROOM)?,
-            },
+
+    // A message of some length and one that says HI are added, and both are asked for. Two bytes say how long it is; it is all zeros.
+    fn both(&mut self, rt: &impl Print, line: &Line<'_>) -> io::Result<()> {
+        let zeros = [0u8; 2000];
+        let Some((length, _)) = line.bytes.split_first_chunk() else {
+            return Ok(());
+        };
+        let Some(message) = zeros.get(..usize::from(u16::from_be_bytes(*length))) else {
+            return Ok(());
+        };
+        match two(&mut self.lent, message) {
+            Err(why) => page::refused(rt, why),
+            Ok(log) => {
+                let both = Line {
+                    word: "log",
+                    text: "give from 1 count 2",
+                    bytes: b"",
+                    mark: None,
+                };
+                send(rt, &both, log, &self.lent)
+            }
         }
     }
-    Ok(())
-}
 
-// The log after a line.
-pub fn line(
-    rt: &impl Print,
-    letter: u8,
-    text: &[u8],
-    d: &[u8],
-    room: usize,
-    shelf: Shelf,
-    lent: &mut [u8],
-) -> io::Result<Shelf> {
-    if letter != b'l' {
-        return Ok(shelf);
+    // The log after a line.
+    pub fn answer(&mut self, rt: &impl Print, line: &Line<'_>) -> io::Result<()> {
+        match (line.word, line.command()) {
+            ("lend", _) => self.both(rt, line),
+            (_, "open") => {
+                self.log = EMPTY;
+                self.size = numbers::whole(line.text, 0) as usize;
+                tell(rt, EMPTY)
+            }
+            (_, "is") => self.given(rt, line.text),
+            _ => self.used(rt, line),
+        }
     }
-    if text.len() < 2 {
-        return Ok(shelf);
-    }
-    if text[1] == b'e' {
-        both(rt, d, lent)?;
-        return Ok(shelf);
-    }
-    log_line(rt, text, d, room, shelf, lent)
 }

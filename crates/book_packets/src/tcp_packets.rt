@@ -1,75 +1,61 @@
 // MEMX-TCP packets, as their reader takes them.
 use book_page::page;
 use memx_tcp::packet::Fields;
-use memx_tcp::reading;
-use memx_tcp::reading::Tcp;
+use memx_tcp::{reading, types};
 use std::io;
 
 // A packet that a server sends: its name, and the fields that its type has.
 fn server(rt: &impl Print, p: Fields) -> io::Result<()> {
-    let kind = p.kind;
-    match kind {
-        0 => page::words(rt, b"\n= heartbeat"),
-        1 => page::letter(rt, b"\n= login accepted, mode ", p.letter),
-        2 => page::letter(rt, b"\n= login rejected, reason ", p.letter),
-        3 => page::number(rt, b"\n= start of session, session ", p.session.0),
-        4 => page::words(rt, b"\n= end of session"),
-        5 => {
-            page::number(rt, b"\n= replay begin, next ", p.number.0)?;
-            page::number(rt, b", pending ", p.count as u64)
-        }
-        6 => page::letter(rt, b"\n= replay rejected, reason ", p.letter),
-        7 => page::number(rt, b"\n= replay complete, count ", p.count as u64),
-        8 => {
-            page::number(rt, b"\n= stream begin, next ", p.number.0)?;
-            page::number(rt, b", top ", p.top.0)
-        }
-        9 => page::letter(rt, b"\n= stream rejected, reason ", p.letter),
-        10 => page::number(rt, b"\n= stream complete, total ", p.number.0),
-        _ => page::words(rt, b"\n= sequenced"),
+    let count = p.count;
+    let number = p.number.0;
+    match p.kind {
+        types::HEARTBEAT => print!(rt; "\n= heartbeat"),
+        types::LOGIN_ACCEPTED => page::letter(rt, "\n= login accepted, mode ", p.letter),
+        types::LOGIN_REJECTED => page::letter(rt, "\n= login rejected, reason ", p.letter),
+        types::START_OF_SESSION => print!(rt; "\n= start of session, session {}", p.session.0),
+        types::END_OF_SESSION => print!(rt; "\n= end of session"),
+        types::REPLAY_BEGIN => print!(rt; "\n= replay begin, next {number}, pending {count}"),
+        types::REPLAY_REJECTED => page::letter(rt, "\n= replay rejected, reason ", p.letter),
+        types::REPLAY_COMPLETE => print!(rt; "\n= replay complete, count {count}"),
+        types::STREAM_BEGIN => print!(rt; "\n= stream begin, next {number}, top {}", p.top.0),
+        types::STREAM_REJECTED => page::letter(rt, "\n= stream rejected, reason ", p.letter),
+        types::STREAM_COMPLETE => print!(rt; "\n= stream complete, total {number}"),
+        _ => print!(rt; "\n= sequenced"),
     }
 }
 
 // A packet that only a client sends.
 fn client(rt: &impl Print, p: Fields) -> io::Result<()> {
-    let kind = p.kind;
-    match kind {
-        100 => {
-            page::letter(rt, b"\n= login, token type ", p.letter)?;
-            page::words(rt, b", token")
+    let session = p.session.0;
+    let number = p.number.0;
+    match p.kind {
+        types::LOGIN => {
+            page::letter(rt, "\n= login, token type ", p.letter)?;
+            print!(rt; ", token")
         }
-        101 => {
-            page::number(rt, b"\n= replay, session ", p.session.0)?;
-            page::number(rt, b", next ", p.number.0)?;
-            page::number(rt, b", count ", p.count as u64)
+        types::REPLAY => {
+            print!(rt; "\n= replay, session {session}, next {number}, count {}", p.count)
         }
-        102 => page::number(rt, b"\n= replay all, session ", p.session.0),
-        103 => {
-            page::number(rt, b"\n= stream, session ", p.session.0)?;
-            page::number(rt, b", next ", p.number.0)
-        }
-        _ => page::words(rt, b"\n= unsequenced"),
+        types::REPLAY_ALL => print!(rt; "\n= replay all, session {session}"),
+        types::STREAM => print!(rt; "\n= stream, session {session}, next {number}"),
+        _ => print!(rt; "\n= unsequenced"),
     }
 }
 
 // A token or payload begins behind the header; where the type has neither, its place is 0.
 pub fn tcp(rt: &impl Print, d: &[u8]) -> io::Result<()> {
     match reading::read(d) {
-        Tcp::Refused(n) => page::refused(rt, n),
-        Tcp::Packet {
-            fields,
-            start,
-            length,
-        } => {
-            if fields.kind < 100 {
-                server(rt, fields)?;
+        Err(why) => page::refused(rt, why),
+        Ok(packet) => {
+            if packet.fields.kind < types::LOGIN {
+                server(rt, packet.fields)?;
             } else {
-                client(rt, fields)?;
+                client(rt, packet.fields)?;
             }
-            if 0 < start {
-                page::part(rt, b"", d, start, length)?;
+            if packet.start == 0 {
+                return Ok(());
             }
-            Ok(())
+            page::part(rt, "", d, packet.start, packet.length)
         }
     }
 }

@@ -4,67 +4,63 @@ use std::io;
 use ufo::down;
 use ufo::down::Down;
 use ufo_up::up;
-use ufo_up::up::{Up, Upstream};
+use ufo_up::up::Up;
 
-pub fn down(rt: &impl Print, d: &[u8]) -> io::Result<()> {
-    match down::read_down(d) {
-        Down::Refused(n) => page::refused(rt, n),
+fn tell(rt: &impl Print, said: Down, d: &[u8]) -> io::Result<()> {
+    match said {
         Down::Accept { session, next } => {
-            page::number(rt, b"\n= accepted, next ", next.0)?;
-            page::name(rt, b", session", session)
+            print!(rt; "\n= accepted, next {}", next.0)?;
+            page::name(rt, ", session", session)
         }
         Down::Reject { reason } => page::rejected(rt, reason),
         Down::Messages { first, count } => page::packet(rt, d, 7, first, count),
-        Down::End { total } => page::number(rt, b"\n= end, total ", total.0),
+        Down::End { total } => print!(rt; "\n= end, total {}", total.0),
     }
 }
 
-// The message at a place, and the place after it.
-fn message(rt: &impl Print, d: &[u8], place: usize) -> io::Result<usize> {
-    match up::read_message(d, place) {
-        Up::Refused(n) => {
-            page::number(rt, b", refused ", n as u64)?;
-            Ok(place)
-        }
+pub fn down(rt: &impl Print, d: &[u8]) -> io::Result<()> {
+    match down::read_down(d) {
+        Err(why) => page::refused(rt, why),
+        Ok(said) => tell(rt, said, d),
+    }
+}
+
+// What a message of a packet says.
+fn message(rt: &impl Print, d: &[u8], said: Up) -> io::Result<()> {
+    match said {
         Up::Login {
             user,
             password,
             session,
-            next,
         } => {
-            page::words(rt, b", login")?;
-            page::login(rt, user, password, session)?;
-            Ok(next)
+            print!(rt; ", login")?;
+            page::login(rt, user, password, session)
         }
-        Up::Request { first, count, next } => {
-            page::counted(rt, b", asks from ", first, count)?;
-            Ok(next)
+        Up::Request { first, count } => page::counted(rt, ", asks from ", first, count),
+        Up::Unsequenced { start, length } => page::part(rt, ", data", d, start, length),
+        Up::Heartbeat => print!(rt; ", heartbeat"),
+        Up::Logout => print!(rt; ", logout"),
+    }
+}
+
+// The message at a place, and the place after it, if one stands there.
+fn message_at(rt: &impl Print, d: &[u8], place: usize) -> io::Result<Option<usize>> {
+    match up::read_message(d, place) {
+        Err(why) => {
+            print!(rt; ", refused {}", why.number())?;
+            Ok(None)
         }
-        Up::Unsequenced {
-            start,
-            length,
-            next,
-        } => {
-            page::part(rt, b", data", d, start, length)?;
-            Ok(next)
-        }
-        Up::Heartbeat { next } => {
-            page::words(rt, b", heartbeat")?;
-            Ok(next)
-        }
-        Up::Logout { next } => {
-            page::words(rt, b", logout")?;
-            Ok(next)
+        Ok(found) => {
+            message(rt, d, found.message)?;
+            Ok(Some(found.next))
         }
     }
 }
 
 fn messages(rt: &impl Print, d: &[u8], count: usize) -> io::Result<()> {
     let mut at = 0;
-    let mut left = count;
-    while 0 < left {
-        at = message(rt, d, at)?;
-        left -= 1;
+    for _ in 0..count {
+        at = message_at(rt, d, at)?.unwrap_or(at);
     }
     Ok(())
 }
@@ -72,9 +68,9 @@ fn messages(rt: &impl Print, d: &[u8], count: usize) -> io::Result<()> {
 // How many messages a packet has, and each of them.
 pub fn up(rt: &impl Print, d: &[u8]) -> io::Result<()> {
     match up::read_up(d) {
-        Upstream::Refused(n) => page::refused(rt, n),
-        Upstream::Messages(count) => {
-            page::number(rt, b"\n= messages ", count as u64)?;
+        Err(why) => page::refused(rt, why),
+        Ok(count) => {
+            print!(rt; "\n= messages {count}")?;
             messages(rt, d, count)
         }
     }
@@ -82,10 +78,9 @@ pub fn up(rt: &impl Print, d: &[u8]) -> io::Result<()> {
 
 // The message at a place of a packet, and where the next one stands.
 pub fn find(rt: &impl Print, d: &[u8], place: usize) -> io::Result<()> {
-    page::number(rt, b"\n= at ", place as u64)?;
-    let next = message(rt, d, place)?;
-    if next != place {
-        page::number(rt, b", next at ", next as u64)?;
+    print!(rt; "\n= at {place}")?;
+    match message_at(rt, d, place)? {
+        Some(next) => print!(rt; ", next at {next}"),
+        None => Ok(()),
     }
-    Ok(())
 }

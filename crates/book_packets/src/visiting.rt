@@ -5,15 +5,11 @@ use std::io;
 
 pub fn visit(rt: &impl Print, d: &[u8], place: usize) -> io::Result<()> {
     match walker::block_at(d, place) {
-        Block::Refused(n) => page::refused(rt, n),
-        Block::At {
+        Err(why) => page::refused(rt, why),
+        Ok(Block {
             start,
             length,
             next,
-        } => {
-            page::number(rt, b"\n= starts at ", start as u64)?;
-            page::number(rt, b", length ", length as u64)?;
-            page::number(rt, b", next at ", next as u64)
-        }
+        }) => print!(rt; "\n= starts at {start}, length {length}, next at {next}"),
     }
 }

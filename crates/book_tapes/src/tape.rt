@@ -1,150 +1,94 @@
 // The record of a session: how it stands once it is opened, after each datagram, and once it has asked.
 use crate::area;
 use asking::Asked;
-use book_lines::{entry, numbers, scan};
+use book_lines::line::Line;
+use book_lines::{entry, numbers};
 use book_page::page;
 use held::slots;
-use record::open::Opened;
-use record::standing::{MissingRange, Standing};
+use record::standing::Standing;
 use record::{Record, Session, open, standing};
 use std::io;
-use taking::Taken;
 use wire::fields;
 use wire::kinds::{Sequence, SessionId};
 
-// A record, and how many bytes are lent to it as its area.
-#[derive(Clone, Copy)]
+// A record, the area that lies ready for it, and how many bytes of that are lent.
+#[derive(Drop)]
 pub struct Tape {
     kept: Record,
+    area: [u8; area::ROOM],
     size: usize,
 }
 
-// Before any line has opened a record.
-pub fn fresh() -> Tape {
-    Tape {
-        kept: open::open_memx(SessionId(0)),
-        size: slots::AREA,
-    }
-}
-
-// A range of missing numbers, as the record's own one at a place.
-fn range(rt: &impl Print, label: &[u8], kept: Record, place: u64) -> io::Result<()> {
+// A range of missing numbers, as the record's own one at a place; noughts where there is none.
+fn range(rt: &impl Print, label: &str, kept: Record, place: u64) -> io::Result<()> {
     match standing::missing_range(kept, place) {
-        MissingRange::Refused(n) => page::refused(rt, n),
-        MissingRange::Range(range) => {
-            page::number(rt, label, range.first.0)?;
-            page::number(rt, b" to ", range.last.0)
-        }
+        Err(why) => page::refused(rt, why),
+        Ok(None) => print!(rt; "{label}0 to 0"),
+        Ok(Some(range)) => print!(rt; "{label}{} to {}", range.first.0, range.last.0),
     }
-}
-
-fn missing(rt: &impl Print, kept: Record, ranges: u8, first: u64, last: u64) -> io::Result<()> {
-    page::number(rt, b", missing ", first)?;
-    page::number(rt, b" to ", last)?;
-    let mut left = ranges;
-    let mut place: u64 = 0;
-    while 1 < left {
-        place = std::num::wrapping_add_u64(place, 1);
-        range(rt, b", ", kept, place)?;
-        left -= 1;
-    }
-    page::words(rt, b", complete no")
 }
 
 fn stands(rt: &impl Print, kept: Record) -> io::Result<()> {
     match standing::standing_of(kept) {
-        Standing::Refused(n) => page::number(rt, b", refused ", n as u64),
-        Standing::Complete => page::words(rt, b", missing none, complete yes"),
-        Standing::Ongoing => page::words(rt, b", missing none, complete no"),
-        Standing::Missing {
-            ranges,
-            first,
-            last,
-        } => missing(rt, kept, ranges, first.0, last.0),
+        Err(why) => print!(rt; ", refused {}", why.number()),
+        Ok(Standing::Complete) => print!(rt; ", missing none, complete yes"),
+        Ok(Standing::Ongoing) => print!(rt; ", missing none, complete no"),
+        Ok(Standing::Missing { ranges, first }) => {
+            print!(rt; ", missing {} to {}", first.first.0, first.last.0)?;
+            for place in 1..u64::from(ranges) {
+                range(rt, ", ", kept, place)?;
+            }
+            print!(rt; ", complete no")
+        }
     }
 }
 
 // The messages whose slots are full, by their numbers from N on.
 fn held(rt: &impl Print, kept: Record) -> io::Result<()> {
-    let next = kept.next;
-    let mut ahead: u64 = 0;
-    page::words(rt, b", held")?;
-    while ahead < 32 {
-        if slots::is_ahead_full(kept.held, next.0, ahead) {
-            page::number(rt, b" ", std::num::wrapping_add_u64(next.0, ahead))?;
+    let next = kept.next.0;
+    print!(rt; ", held")?;
+    for ahead in 0..32 {
+        if slots::is_ahead_full(kept.held, next, ahead) {
+            print!(rt; " {}", next.wrapping_add(ahead))?;
         }
-        ahead += 1;
     }
     Ok(())
 }
 
 // What was asked from and what is held go without saying where there is none.
-fn tell(rt: &impl Print, kept: Record) -> io::Result<Record> {
-    page::number(rt, b"\n= N ", kept.next.0)?;
-    page::number(rt, b", T ", kept.top.0)?;
-    if kept.asked.0 != 0 {
-        page::number(rt, b", A ", kept.asked.0)?;
+fn tell(rt: &impl Print, kept: Record) -> io::Result<()> {
+    print!(rt; "\n= N {}, T {}", kept.next.0, kept.top.0)?;
+    if kept.asked != Sequence(0) {
+        print!(rt; ", A {}", kept.asked.0)?;
     }
     if kept.held != 0 {
         held(rt, kept)?;
     }
-    stands(rt, kept)?;
-    Ok(kept)
+    stands(rt, kept)
 }
 
-// A record begins with an area of 32 slots.
-fn begin(rt: &impl Print, kept: Record, area: &mut [u8]) -> io::Result<Tape> {
-    area::clear(area);
-    Ok(Tape {
-        kept: tell(rt, kept)?,
-        size: slots::AREA,
-    })
+// A name of ten bytes is a UFO session, a number of eight a MEMX one.
+fn session(d: &[u8]) -> Option<Session> {
+    match d.len() {
+        8 => Some(Session::Memx(SessionId(fields::get8(d, 0)))),
+        10 => Some(Session::Ufo(names::get_name(d, 0))),
+        _ => None,
+    }
 }
 
-// A name of ten bytes opens a UFO record, a number of eight a MEMX one. Else the record is the one before.
-fn open(rt: &impl Print, d: &[u8], tape: Tape, area: &mut [u8]) -> io::Result<Tape> {
-    if d.len() == 8 {
-        return begin(rt, open::open_memx(SessionId(fields::get8(d, 0))), area);
-    }
-    if d.len() == 10 {
-        match open::open_ufo(names::get_name(d, 0)) {
-            Opened::Refused(n) => page::refused(rt, n)?,
-            Opened::Record(opened) => {
-                return begin(rt, opened, area);
-            }
-        }
-    }
-    Ok(tape)
-}
-
-fn session(d: &[u8]) -> Session {
-    if d.len() == 10 {
-        return Session::Ufo(names::get_name(d, 0));
-    }
-    if d.len() == 8 {
-        return Session::Memx(SessionId(fields::get8(d, 0)));
-    }
-    Session::Memx(SessionId(0))
-}
-
-// A record as the line says: the session's bytes, and decimal numbers, of which the session is counted as the first. Behind them
-// stand the numbers of messages whose slots are full.
-fn have(text: &[u8]) -> Record {
-    let mut bytes = [0u8; 64];
-    let end = scan::find(text, b'n');
-    let n = entry::bytes(&text[0..end], &mut bytes);
-    let session = if n <= 64 {
-        session(&bytes[0..n])
-    } else {
-        Session::Memx(SessionId(0))
-    };
+// A record as the line says: the session's bytes, and decimal numbers, of which the session is counted as the first. Behind the word
+// `held` stand the numbers of messages whose slots are full.
+fn have(text: &str) -> Record {
+    let mut room = [0u8; 64];
+    let (name, _) = text.split_once("next").unwrap_or((text, ""));
+    let (_, full) = text.split_once("held").unwrap_or((text, ""));
     Record {
-        session,
+        session: session(entry::bytes(name, &mut room)).unwrap_or(Session::Memx(SessionId(0))),
         next: Sequence(numbers::whole(text, 1)),
         top: Sequence(numbers::whole(text, 2)),
         ended: numbers::whole(text, 4) == 1,
         asked: Sequence(numbers::whole(text, 3)),
-        held: area::bitmap(text, 5),
+        held: area::bitmap(full),
     }
 }
 
@@ -156,140 +100,108 @@ fn delivered(
     next: Sequence,
     count: u32,
 ) -> io::Result<()> {
-    page::number(rt, b"\n= delivered ", count as u64)?;
-    let end = page::messages(rt, out, 0, next, count)?;
-    if end != bytes {
-        page::number(rt, b", bytes ", bytes as u64)?;
+    print!(rt; "\n= delivered {count}")?;
+    if page::messages(rt, out, 0, next, count)? != bytes {
+        print!(rt; ", bytes {bytes}")?;
     }
     page::untouched(rt, out, bytes)
 }
 
-// The record after a datagram; after a refusal it is the one before.
-fn take(
-    rt: &impl Print,
-    d: &[u8],
-    kept: Record,
-    room: usize,
-    area: &mut [u8],
-) -> io::Result<Record> {
-    let mut out = [page::UNTOUCHED; page::ROOM];
-    if page::ROOM < room {
-        return Ok(kept);
-    }
-    match taking::take(kept, area, d, &mut out[0..room]) {
-        Taken::Refused(n) => {
-            page::refused(rt, n)?;
-            page::untouched(rt, &out, 0)?;
-            Ok(kept)
-        }
-        Taken::Took {
-            bytes,
-            messages,
-            after,
-        } => {
-            delivered(rt, &out, bytes, kept.next, messages)?;
-            Ok(after)
+impl Tape {
+    // Before any line has opened a record.
+    pub fn fresh() -> Tape {
+        Tape {
+            kept: open::open_memx(SessionId(0)),
+            area: [page::UNTOUCHED; area::ROOM],
+            size: slots::AREA,
         }
     }
-}
 
-// Of the area so many bytes are lent; all of it is looked at afterwards.
-fn take_lent(
-    rt: &impl Print,
-    d: &[u8],
-    tape: Tape,
-    room: usize,
-    area: &mut [u8],
-) -> io::Result<Tape> {
-    let mut before = [0u8; area::ROOM];
-    let size = tape.size;
-    if area::ROOM < area.len() {
-        return Ok(tape);
+    // A record begins with an area of 32 slots, each of which begins with a byte that no length has.
+    fn begin(&mut self, rt: &impl Print, kept: Record) -> io::Result<()> {
+        *self = Tape {
+            kept,
+            area: [page::UNTOUCHED; area::ROOM],
+            size: slots::AREA,
+        };
+        tell(rt, kept)
     }
-    before[0..area.len()].copy_from_slice(area);
-    if area.len() < size {
-        return Ok(tape);
-    }
-    let kept = tape.kept;
-    let after = take(rt, d, kept, room, &mut area[0..size])?;
-    area::changes(rt, &before, area)?;
-    Ok(Tape {
-        kept: tell(rt, after)?,
-        size,
-    })
-}
 
-// The rule comes first, then the time that has passed, then the sheet.
-fn ask(rt: &impl Print, text: &[u8], kept: Record) -> io::Result<Record> {
-    let rule = book_clock::rule(text, 4);
-    let k = book_clock::size(rule);
-    let sheet = book_clock::sheet(text, std::num::wrapping_add_usize(k, 1));
-    match asking::ask(kept, sheet, rule, numbers::fraction(text, k)) {
-        Asked::Refused(n) => page::refused(rt, n)?,
-        Asked::Nothing => page::words(rt, b"\n= nothing")?,
-        Asked::Wait => page::words(rt, b"\n= wait")?,
-        Asked::Request {
-            first,
-            count,
-            after,
-        } => {
-            page::counted(rt, b"\n= asks from ", first, count)?;
-            return tell(rt, after);
+    // Else the record is the one before.
+    fn open(&mut self, rt: &impl Print, d: &[u8]) -> io::Result<()> {
+        match session(d) {
+            Some(Session::Memx(session)) => self.begin(rt, open::open_memx(session)),
+            Some(Session::Ufo(name)) => match open::open_ufo(name) {
+                Err(why) => page::refused(rt, why),
+                Ok(opened) => self.begin(rt, opened),
+            },
+            None => Ok(()),
         }
     }
-    Ok(kept)
-}
 
-// The area as a line says: so many bytes of it are lent, or bytes lie in a slot.
-fn lent(text: &[u8], tape: Tape, area: &mut [u8]) -> Tape {
-    if text.len() < 6 {
-        return tape;
-    }
-    if text[5] == b's' {
-        area::lay(text, area);
-        return tape;
-    }
-    let kept = tape.kept;
-    Tape {
-        kept,
-        size: numbers::whole(text, 0) as usize,
-    }
-}
-
-// `ask` and `area` have the first letter in common.
-fn asks(rt: &impl Print, text: &[u8], tape: Tape, area: &mut [u8]) -> io::Result<Tape> {
-    if text.len() < 2 {
-        return Ok(tape);
-    }
-    if text[1] == b'r' {
-        return Ok(lent(text, tape, area));
-    }
-    let kept = tape.kept;
-    Ok(Tape {
-        kept: ask(rt, text, kept)?,
-        size: tape.size,
-    })
-}
-
-// The record after a line.
-pub fn line(
-    rt: &impl Print,
-    letter: u8,
-    text: &[u8],
-    d: &[u8],
-    room: usize,
-    tape: Tape,
-    area: &mut [u8],
-) -> io::Result<Tape> {
-    match letter {
-        b'o' => open(rt, d, tape, area),
-        b'h' => begin(rt, have(text), area),
-        b't' => take_lent(rt, d, tape, room, area),
-        b'a' => asks(rt, text, tape, area),
-        b'r' => {
-            range(rt, b"\n= ", tape.kept, numbers::whole(text, 0))?;
-            Ok(tape)
+    // After a refusal the record is the one before. All of the area is looked at, not only what is lent of it.
+    fn take(&mut self, rt: &impl Print, d: &[u8], room: usize) -> io::Result<()> {
+        let mut out = [page::UNTOUCHED; page::ROOM];
+        let before = self.area;
+        let kept = self.kept;
+        let (Some(lent), Some(area)) = (out.get_mut(..room), self.area.get_mut(..self.size)) else {
+            return Ok(());
+        };
+        match taking::take(kept, area, d, lent) {
+            Err(why) => {
+                page::refused(rt, why)?;
+                page::untouched(rt, &out, 0)?;
+            }
+            Ok(took) => {
+                delivered(rt, &out, took.bytes, kept.next, took.messages)?;
+                self.kept = took.after;
+            }
         }
-        _ => Ok(tape),
+        area::changes(rt, &before, &self.area)?;
+        tell(rt, self.kept)
+    }
+
+    // The rule comes first, then the time that has passed, then the sheet.
+    fn ask(&mut self, rt: &impl Print, text: &str) -> io::Result<()> {
+        let rule = book_clock::rule(text);
+        let k = book_clock::size(rule);
+        let sheet = book_clock::sheet(text, k.saturating_add(1));
+        match asking::ask(self.kept, sheet, rule, numbers::fraction(text, k)) {
+            Err(why) => page::refused(rt, why),
+            Ok(Asked::Nothing) => print!(rt; "\n= nothing"),
+            Ok(Asked::Wait) => print!(rt; "\n= wait"),
+            Ok(Asked::Request {
+                first,
+                count,
+                after,
+            }) => {
+                page::counted(rt, "\n= asks from ", first, count)?;
+                self.kept = after;
+                tell(rt, after)
+            }
+        }
+    }
+
+    // The area as a line says: bytes lie in a slot, or so many bytes of it are lent.
+    fn lend(&mut self, text: &str) {
+        match text.strip_prefix("slot") {
+            Some(slot) => area::lay(slot, &mut self.area),
+            None => self.size = numbers::whole(text, 0) as usize,
+        }
+    }
+
+    // The record after a line.
+    pub fn answer(&mut self, rt: &impl Print, line: &Line<'_>) -> io::Result<()> {
+        match line.word {
+            "open" => self.open(rt, line.bytes),
+            "have" => self.begin(rt, have(line.text)),
+            "take" => self.take(rt, line.bytes, line.mark.unwrap_or(page::ROOM)),
+            "ask" => self.ask(rt, line.text),
+            "area" => {
+                self.lend(line.text);
+                Ok(())
+            }
+            _ => range(rt, "\n= ", self.kept, numbers::whole(line.text, 0)),
+        }
     }
 }
