@@ -2,7 +2,7 @@
 -- Assumes nothing.
 use Rattle.std.specs.Prelude.{if◌then◌else◌}
 use Prim.Native.Nat.{ℕ, ◌+◌, ◌*◌, ◌/◌, ◌%◌, ◌<◌}
-use mathlib.Core.Path.{◌≡◌, refl, sym}
+use mathlib.Core.Path.{◌≡◌, refl, sym, ap}
 use mathlib.Core.Logic.{inl, inr}
 use mathlib.Core.List.{List, [], ◌∷◌}
 use mathlib.Core.Bool.{Bool, true, not, ◌&&◌, ◌||◌, or-true, true≢false}
@@ -12,7 +12,10 @@ use types.Run.{OneOf}
 use lib.ListN.{get_or, drop}
 use Rattle.wire.specs.Fields.{be, bytes_of}
 use Rattle.wire.specs.Checks.{◌is◌, refused, taken, Check, checked}
+use Rattle.wire.specs.Refusals.{number_of}
+use Rattle.wire.specs.declared.refusal.Refusal.{Refusal}
 use Rattle.wire.specs.declared.refusal.Refusal.TheVariants.{Form}
+use Rattle.wire.proofs.Checks.{refused-same}
 use Rattle.wire.proofs.Tests.{by-test, and_left, and_right, impossible}
 use Rattle.memx_tcp.specs.Layout.{Row, ◌is_one_of◌, lettered, known, fields_of, most_of, size}
 use Rattle.memx_tcp.specs.Packet.{header_size, laid, write, each}
@@ -75,22 +78,22 @@ module _ (b : ℕ) where
 
 -- ---- the others
 
--- a list in which no check under the number n can fail
-abbrev pub spared : ℕ → List Check → Bool
-spared n [] = true
-spared n (c ∷ cs) = (not (c.number is n) || c.test) && spared n cs
+-- a list in which no check can fail that refuses so
+abbrev pub spared : Refusal → List Check → Bool
+spared why [] = true
+spared why (c ∷ cs) = (not (number_of c.why is number_of why) || c.test) && spared why cs
 
--- does not refuse under it
-pub never-refused : {A : Type 0} (n : ℕ) (cs : List Check) (a : A) → spared n cs ≡ true → checked cs (taken a) ≡ refused n → ⊥
-never-refused n [] a s e = impossible cc
-never-refused n (c ∷ cs) a s e =
-    let here = not (c.number is n) || c.test in
+-- does not refuse so
+pub never-refused : {A : Type 0} (why : Refusal) (cs : List Check) (a : A) → spared why cs ≡ true → checked cs (taken a) ≡ refused why → ⊥
+never-refused why [] a s e = impossible cc
+never-refused why (c ∷ cs) a s e =
+    let here = not (number_of c.why is number_of why) || c.test in
     by-test c.test
-    (λ q. never-refused n cs a (and_right here (spared n cs) s) (rw q at e))
+    (λ q. never-refused why cs a (and_right here (spared why cs) s) (rw q at e))
     (λ q.
-    let r : refused c.number ≡ refused n = rw q at e in
-    let m : c.number ≡ n = cc in
-    true≢false (sym (rw (eq-eqb c.number n m, q) at (and_left here (spared n cs) s))))
+    let same : c.why ≡ why = refused-same c.why why (rw q at e) in
+    let m : number_of c.why ≡ number_of why = ap number_of same in
+    true≢false (sym (rw (eq-eqb (number_of c.why) (number_of why) m, q) at (and_left here (spared why cs) s))))
 
 -- a packet of any other type is never refused for a letter
 pub no-letter-elsewhere : (d : List ℕ) → (OneOf (1 ∷ 2 ∷ 6 ∷ 9 ∷ 100 ∷ []) (get_or d 0 0) → ⊥) → read d ≡ refused Form → ⊥

@@ -1,12 +1,11 @@
 -- What the code answers: a packet's fields by name, and where its token or payload stands.
 -- Assumes nothing.
 use Rattle.std.specs.Prelude.{ℕ, ◌+◌, List, [], ◌∷◌, length, if◌then◌else◌}
-use Rattle.wire.specs.Checks.{◌is◌, Verdict, refused, taken}
+use Rattle.wire.specs.Checks.{◌is◌}
 use Rattle.memx_tcp.specs.Layout.{Field, letter, count, session, next, number, top, fields_of, most_of, size}
 use Rattle.memx_tcp.specs.Packet.{Packet, header_size}
 use Rattle.memx_tcp.specs.declared.packet.Fields.{Fields}
 use Rattle.memx_tcp.specs.declared.reading.Tcp.{Tcp}
-use Rattle.memx_tcp.specs.declared.reading.Tcp.TheVariants as tcp
 
 -- the fields of the code
 abbrev pub fields : (kind letter count session number top : ℕ) → Fields
@@ -36,6 +35,5 @@ fields_by kind values = all_named (fields_of kind) values (fields kind 0 0 0 0 0
 abbrev pub start_of : ℕ → ℕ
 start_of kind = if most_of kind is 0 then 0 else header_size + size (fields_of kind)
 
-abbrev pub tcp_of : Verdict Packet → Tcp
-tcp_of (refused n) = tcp.Refused n
-tcp_of (taken p) = tcp.Packet (fields_by p.kind p.values) (start_of p.kind) (length p.tail)
+abbrev pub tcp_of : Packet → Tcp
+tcp_of p = record { fields = fields_by p.kind p.values; start = start_of p.kind; length = length p.tail }

@@ -1,6 +1,6 @@
 // Reading a packet.
 ghost use Rattle.std.specs.Prelude.{◌≡◌, true, ◌||◌, ◌≤◌, ◌<◌, length, drop};
-ghost use Rattle.wire.specs.Checks.{◌is◌};
+ghost use Rattle.wire.specs.Checks.{◌is◌, ◌told_by◌};
 ghost use Rattle.memx_tcp.specs.Layout.{most_of, size};
 ghost use Rattle.memx_tcp.specs.Packet.{header_size, limit};
 ghost use Rattle.memx_tcp.specs.Read.{kind_in, values_in, fields_in, end_in, framed, read};
@@ -14,13 +14,10 @@ use wire::refusal::Refusal;
 
 // What a packet says: its fields, and where its token or payload begins and how many bytes it has, both 0 where the type has neither.
 #[derive(Clone, Copy)]
-pub enum Tcp {
-    Refused(Refusal),
-    Packet {
-        fields: Fields,
-        start: usize,
-        length: usize,
-    },
+pub struct Tcp {
+    pub fields: Fields,
+    pub start: usize,
+    pub length: usize,
 }
 
 fn fields(kind: u8, letter: u8, count: u32, session: u64, number: u64, top: u64) -> Fields
@@ -112,66 +109,66 @@ fn is_framed(d: &[u8], fixed: usize, most: usize) -> bool
 }
 
 // A payload stands right behind the header. Most packets carry one, so that it is worth a way of its own.
-fn read_payload(d: &[u8]) -> Tcp
+fn read_payload(d: &[u8]) -> Result<Tcp, Refusal>
     requires { (0 < length d.now) × (length d.now ≤ limit) × ((kind_in d.now is 11 || kind_in d.now is 104) ≡ true) }
-    ensures { result ≡ tcp_of (read d.now) }
+    ensures { result ≡ read d.now told_by tcp_of }
 {
     if d.len() < layout::HEADER {
-        return Tcp::Refused(Refusal::Framing);
+        return Err(Refusal::Framing);
     }
     let length = d.len() - layout::HEADER;
     if get2(d, 1) as usize != length {
-        return Tcp::Refused(Refusal::Framing);
+        return Err(Refusal::Framing);
     }
     let kind = d[0];
     let fields = fields(kind, 0, 0, 0, 0, 0);
-    Tcp::Packet {
+    Ok(Tcp {
         fields,
         start: layout::HEADER,
         length,
-    }
+    })
 }
 
-pub fn read(d: &[u8]) -> Tcp
-    ensures { result ≡ tcp_of (read d.now) }
+pub fn read(d: &[u8]) -> Result<Tcp, Refusal>
+    ensures { result ≡ read d.now told_by tcp_of }
 {
     if d.len() == 0 {
-        return Tcp::Refused(Refusal::Empty);
+        return Err(Refusal::Empty);
     }
     if layout::LIMIT < d.len() {
-        return Tcp::Refused(Refusal::Overlong);
+        return Err(Refusal::Overlong);
     }
     let kind = d[0];
     if (kind == types::SEQUENCED) | (kind == types::UNSEQUENCED) {
         return read_payload(d);
     }
     if !layout::is_known(kind) {
-        return Tcp::Refused(Refusal::UnknownType);
+        return Err(Refusal::UnknownType);
     }
     let fixed = layout::fixed(kind);
     let most = layout::most(kind);
     if !is_framed(d, fixed, most) {
-        return Tcp::Refused(Refusal::Framing);
+        return Err(Refusal::Framing);
     }
     let fields = fields_of(d);
     if !layout::is_lettered(fields) {
-        return Tcp::Refused(Refusal::Form);
+        return Err(Refusal::Form);
     }
     if !layout::is_numbered(fields) {
-        return Tcp::Refused(Refusal::Absent);
+        return Err(Refusal::Absent);
     }
     let end = layout::HEADER + fixed;
     let length = d.len() - end;
     if most == 0 {
-        return Tcp::Packet {
+        return Ok(Tcp {
             fields,
             start: 0,
             length,
-        };
+        });
     }
-    Tcp::Packet {
+    Ok(Tcp {
         fields,
         start: end,
         length,
-    }
+    })
 }

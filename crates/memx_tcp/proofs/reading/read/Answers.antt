@@ -7,7 +7,7 @@ use mathlib.Core.Bool.{Bool, true}
 use native.Mathlib.Omega.{arith}
 use borrow.Author.Tests.{eq-eqb, ne_eqb}
 use lib.ListN.{length, drop, length-drop}
-use Rattle.wire.specs.Checks.{Verdict, taken, ◌else◌, checked}
+use Rattle.wire.specs.Checks.{Verdict, taken, ◌else◌, checked, ◌told_by◌}
 use Rattle.wire.specs.declared.refusal.Refusal.TheVariants.{Framing, Form, Absent}
 use Rattle.wire.proofs.Tests.{tests}
 use Rattle.memx_tcp.specs.Layout.{Field, lettered, numbered, fields_of, most_of, size}
@@ -16,7 +16,6 @@ use Rattle.memx_tcp.specs.Read.{kind_in, fields_in, packet_in, framed, read}
 use Rattle.memx_tcp.specs.Reading.{fields_by, start_of, tcp_of}
 use Rattle.memx_tcp.specs.Writing.{values_of}
 use Rattle.memx_tcp.specs.declared.packet.Fields.{Fields}
-use Rattle.memx_tcp.specs.declared.reading.Tcp.TheVariants as tcp
 use Rattle.memx_tcp.proofs.Every.{named_again}
 use Rattle.memx_tcp.proofs.Framing.{framed-says}
 use Rattle.memx_tcp.proofs.reading.read.Goals.{Else-not-is_framed, Else-not-is_known, Else-not-is_lettered, Else-not-is_numbered}
@@ -31,7 +30,7 @@ tested test s p b e h =
 
 -- the answer to a packet that passed every check, by what the code found in it
 answers : (s : List ℕ) (p : Fields) (fixed start : ℕ) → read s ≡ taken (packet_in s) → p ≡ fields_by (kind_in s) (packet_in s).values
-    → fixed ≡ size (fields_in s) → start ≡ start_of (kind_in s) → tcp.Packet p start (length s - (3 + fixed)) ≡ tcp_of (read s)
+    → fixed ≡ size (fields_in s) → start ≡ start_of (kind_in s) → taken (record { fields = p; start = start; length = length s - (3 + fixed) }) ≡ read s told_by tcp_of
 answers s p fixed start r e f g = rw (r, e, f, g, length-drop)
 
 -- what is left to check where the type is known

@@ -7,14 +7,13 @@ use mathlib.Core.Bool.{true, false, ◌||◌}
 use native.Mathlib.Omega.{arith}
 use borrow.Author.Tests.{le-leb, ne_eqb}
 use lib.ListN.{length, length-drop}
-use Rattle.wire.specs.Checks.{◌is◌, refused}
+use Rattle.wire.specs.Checks.{◌is◌, refused, taken, ◌told_by◌}
 use Rattle.wire.specs.declared.refusal.Refusal.TheVariants.{Framing}
 use Rattle.wire.proofs.Tests.{one-of-fact}
 use Rattle.memx_tcp.specs.Layout.{known, fields_of, most_of, size}
 use Rattle.memx_tcp.specs.Packet.{header_size, limit, each}
 use Rattle.memx_tcp.specs.Read.{kind_in, stated_in, values_in, end_in, framed, read}
 use Rattle.memx_tcp.specs.Reading.{fields, fields_by, tcp_of}
-use Rattle.memx_tcp.specs.declared.reading.Tcp.TheVariants as tcp
 use Rattle.memx_tcp.proofs.Framing.{misstated, followed}
 use Rattle.memx_tcp.proofs.reading.read_payload.Goals as goal
 
@@ -34,7 +33,7 @@ module _ (s : List ℕ) (some : 0 < length s) (short : length s ≤ limit) (k : 
       rw (ne_eqb (length s) 0 (λ e. omega arith), le-leb (length s) limit short, b.0, ← f)
 
   takes : (n : ℕ) → header_size + stated_in s ≡ length s → n ≡ length s - 3
-      → tcp.Packet (fields (kind_in s) 0 0 0 0 0) 3 n ≡ tcp_of (read s)
+      → taken (record { fields = fields (kind_in s) 0 0 0 0 0; start = 3; length = n }) ≡ read s told_by tcp_of
   unfolding read size values_in each fields_by
   takes n e l =
       let b = bare (kind_in s) k in

@@ -8,7 +8,7 @@ use native.Mathlib.Omega.{arith}
 use borrow.Author.Tests.{le-leb, lt-leb}
 use lib.ListN.{length, set, length-set}
 use Rattle.wire.specs.Checks.{◌at_most◌, taken, ◌else◌, checked}
-use Rattle.wire.specs.declared.refusal.Refusal.TheVariants.{Framing, Form, Absent}
+use Rattle.wire.specs.declared.refusal.Refusal.TheVariants.{Overlong, UnknownType, Framing, Form, Absent}
 use Rattle.wire.proofs.Settling.{refuses, lacks-room, has_room}
 use Rattle.memx_tcp.specs.Layout.{lettered, numbered, known, fields_of, most_of, size}
 use Rattle.memx_tcp.specs.Packet.{Packet, header_size, limit, write, Sized, each}
@@ -70,21 +70,21 @@ pub returns-then-end-body : goal.returns-then-end-body
 returns-then-end-body c =
     let s = (goal.at.returns-then-end-body c).Start in
     let h = short c.args.p.kind in
-    refuses _ _ 2 (rw (verdict s, lt-leb (bytes_in s) limit (omega arith)))
+    refuses _ _ Overlong (rw (verdict s, lt-leb (bytes_in s) limit (omega arith)))
 
 pub returns-then-not-is_known : goal.returns-then-not-is_known
 returns-then-not-is_known c =
     let s = (goal.at.returns-then-not-is_known c).Start in
     let h = short c.args.p.kind in
     let unknown = sym c.is_known.ensures ∙ c.if-not-is_known.true in
-    refuses _ _ 3 (rw (verdict s, le-leb (bytes_in s) limit (omega arith), unknown))
+    refuses _ _ UnknownType (rw (verdict s, le-leb (bytes_in s) limit (omega arith), unknown))
 
 pub returns-then-most-body : goal.returns-then-most-body
 returns-then-most-body c =
     let at = goal.at.returns-then-most-body c in
     let a = c.args in
     let h = short a.p.kind in
-    refuses _ _ 4
+    refuses _ _ Framing
     (rw (opened at.Start (is_typed at.Else-not-is_known) (omega arith), lt-leb (length a.body.now) (most_of a.p.kind) (omega arith)))
 
 pub returns-then-not-is_lettered : goal.returns-then-not-is_lettered
@@ -93,7 +93,7 @@ returns-then-not-is_lettered c =
     let a = c.args in
     let h = short a.p.kind in
     let l = sym c.is_lettered.ensures ∙ c.if-not-is_lettered.true in
-    refuses _ _ 5
+    refuses _ _ Form
     (rw (
       opened at.Start (is_typed at.Else-not-is_known) (omega arith),
       le-leb (length a.body.now) (most_of a.p.kind) (omega arith),
@@ -106,7 +106,7 @@ returns-then-not-is_numbered c =
     let a = c.args in
     let h = short a.p.kind in
     let n = sym c.is_numbered.ensures ∙ c.if-not-is_numbered.true in
-    refuses _ _ 6
+    refuses _ _ Absent
     (rw (
       opened at.Start (is_typed at.Else-not-is_known) (omega arith),
       le-leb (length a.body.now) (most_of a.p.kind) (omega arith),
