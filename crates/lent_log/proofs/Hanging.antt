@@ -3,6 +3,7 @@
 use Prim.Native.Nat.{ℕ, ◌-◌, ◌^◌, ◌≤◌, ◌<◌}
 use mathlib.Core.List.{List}
 use mathlib.Core.Path.{◌≡◌, ◌∙◌}
+use mathlib.Core.Logic.{◌⊎◌, inl, inr}
 use mathlib.Core.Bool.{true, false, ◌&&◌, and-false}
 use borrow.Author.Tests.{le-leb, lt-leb, leb-true}
 use lib.ListN.{length}
@@ -35,7 +36,7 @@ module _ (l : Log) (s : List ℕ) where
         sizes = q.1;
       }
 
-  -- the pass over the blocks decides
+  -- the count of the blocks decides
   pub hangs-if-sound : l.count ≤ 2 ^ 32 - 2 → l.used ≤ length s → hangs l s ≡ sound (blocks_in l s)
   unfolding hangs
   hangs-if-sound h k = rw (le-leb l.count (2 ^ 32 - 2) h, le-leb l.used (length s) k)
@@ -44,10 +45,8 @@ module _ (l : Log) (s : List ℕ) where
       → hangs l s ≡ true
   hangs-so h k ms e z = hangs-if-sound h k ∙ rw e z
 
-  pub too_many : 2 ^ 32 - 2 < l.count → hangs l s ≡ false
+  -- and past those bounds nothing does
+  pub out_of_bounds : (2 ^ 32 - 2 < l.count) ⊎ ((l.count ≤ 2 ^ 32 - 2) × (length s < l.used)) → hangs l s ≡ false
   unfolding hangs
-  too_many h = rw (lt-leb l.count (2 ^ 32 - 2) h)
-
-  pub past_the_end : length s < l.used → hangs l s ≡ false
-  unfolding hangs
-  past_the_end h = rw (lt-leb l.used (length s) h, and-false (leb l.count (2 ^ 32 - 2)))
+  out_of_bounds (inl h) = rw (lt-leb l.count (2 ^ 32 - 2) h)
+  out_of_bounds (inr h) = rw (lt-leb l.used (length s) h.1, and-false (leb l.count (2 ^ 32 - 2)))

@@ -1,25 +1,26 @@
--- Blocks to the very end: cutting what was framed gives the messages, and what the count of them tells.
+-- Blocks to the very end: cutting what was framed gives the messages, as many blocks cut exactly are the same, and what the count tells.
 -- Assumes nothing.
-use Prim.Native.Nat.{ℕ, zero, suc, ◌<◌}
+use Prim.Native.Nat.{ℕ, zero, suc, ◌+◌, ◌≤◌, ◌<◌}
 use mathlib.Core.List.{List, [], ◌∷◌}
 use mathlib.Core.Path.{◌≡◌, refl, ap, sym, ◌∙◌}
 use mathlib.Core.Bool.{Bool, true, false}
 use native.Mathlib.Nat.{not-suc-le-zero}
 use native.Mathlib.Omega.{arith}
-use borrow.Author.Tests.{ne_eqb}
-use lib.ListN.{length}
+use borrow.Author.Tests.{leb-true, eq-eqb, ne_eqb}
+use lib.ListN.{length, length-drop}
 use lib.Dec.{eqb}
 use Rattle.wire.specs.Fields.{Bytes}
-use Rattle.wire.specs.Checks.{refused}
+use Rattle.std.specs.Result.{result_eq}
+use Rattle.wire.specs.Checks.{taken}
+use Rattle.wire.specs.declared.refusal.Refusal.{Refusal}
 use Rattle.wire.specs.declared.refusal.Refusal.TheVariants.{Overlong, Framing}
-use Rattle.wire.proofs.Tests.{by-test, impossible}
-use Rattle.blocks.specs.Blocks.{frames, there, first, rest, Cut, torn, whole, cut, messages_of, Each, Short}
-use Rattle.blocks.specs.declared.Count.TheVariants as count
+use Rattle.wire.proofs.Tests.{by-test}
+use Rattle.wire.proofs.Checks.{not-both, taken-same}
+use Rattle.blocks.specs.Blocks.{frames, stated, there, first, rest, Cut, torn, whole, cut, messages_of, Each, Short}
 use Rattle.blocks.proofs.Frames.{there-some}
-use Rattle.blocks.proofs.Counting.{count-frames}
+use Rattle.blocks.proofs.Counting.{length_cut, count-frames}
 use Rattle.blocks.proofs.Cutting.{not-torn, stepped, cut-frames, frames-cut}
-use Rattle.lent_log.specs.Log.{small, hangs, cut_all, to_the_end, tallied, adding_many}
-use Rattle.lent_log.specs.declared.Log.{Log}
+use Rattle.lent_log.specs.Log.{small, sound, cut_all, to_the_end, tallied}
 
 -- as many blocks as there are, exactly
 all-cut : (n : ℕ) (s : List ℕ) (ms : List (List ℕ)) → cut_all n s ≡ whole ms → cut (length ms) s ≡ whole ms
@@ -60,26 +61,41 @@ all-frames ms h =
 pub frames-all : (s : List ℕ) (ms : List (List ℕ)) → Bytes s → to_the_end s ≡ whole ms → frames ms ≡ s
 frames-all s ms b e = (frames-cut (length ms) s ms b (all-cut (suc (length s)) s ms e)).0
 
+-- no more of them than bytes, so however many are cut exactly, they are the blocks to the very end
+few-cut : (n : ℕ) (s : List ℕ) (ms : List (List ℕ)) → cut n s ≡ whole ms → n ≤ length s
+few-cut zero s ms e = omega arith
+few-cut (suc n) s ms e =
+    let p = stepped n s ms e in
+    let h = leb-true (2 + stated s) (length s) p.is-there in
+    omega (arith, rw length-drop at (few-cut n (rest s) p.others p.cuts))
+
+exactly-all : (n : ℕ) (s : List ℕ) (ms : List (List ℕ)) → cut n s ≡ whole ms → to_the_end s ≡ whole ms
+exactly-all n s ms e = let h = few-cut n s ms e in cut_all_lem n (suc (length s)) s ms (omega arith) e
+
+-- so the count of the blocks to the very end tells whether exactly n of them are sound
+pub sound-if-counted : (n : ℕ) (s : List ℕ) (same : Refusal → Refusal → Bool)
+    → result_eq eqb same (tallied (to_the_end s)) (taken n) ≡ sound (cut n s)
+sound-if-counted n s same = by (to_the_end s) refl (cut n s) refl where
+  by : (q : Cut) → to_the_end s ≡ q → (r : Cut) → cut n s ≡ r → result_eq eqb same (tallied q) (taken n) ≡ sound r
+  by torn e torn f = refl
+  by torn e (whole os) f = not-torn (to_the_end s) os e (exactly-all n s os f)
+  by (whole ms) e torn f =
+      let other = ne_eqb (length ms) n (λ z. not-torn (cut n s) ms f (rw z at (all-cut (suc (length s)) s ms e))) in
+      by-test (small ms) (λ z. rw (z, other)) (λ z. rw z)
+  by (whole ms) e (whole os) f =
+      let are : os ≡ ms = ap messages_of (sym (exactly-all n s os f) ∙ e) in
+      let l : length ms ≡ n = rw are at (length_cut n s os f) in
+      by-test (small ms) (λ z. rw (are, z, eq-eqb (length ms) n l)) (λ z. rw (are, z))
+
 -- what the count tells
 pub record Tallied (q : Cut) (n : ℕ) : Type 0 where
   pub cuts : q ≡ whole (messages_of q)
   pub sizes : small (messages_of q) ≡ true
   pub number : n ≡ length (messages_of q)
 
-pub counted : (q : Cut) (n : ℕ) → tallied q ≡ count.Blocks n → Tallied q n
-counted torn n e = impossible cc
+pub counted : (q : Cut) (n : ℕ) → tallied q ≡ taken n → Tallied q n
+counted torn n e = not-both (tallied torn) Framing n refl e
 counted (whole ms) n e =
     by-test (small ms)
-    (λ z. let f : count.Blocks (length ms) ≡ count.Blocks n = rw z at e in record { cuts = refl; sizes = z; number = cc f })
-    (λ z. let f : count.Refused Overlong ≡ count.Blocks n = rw z at e in impossible (cc f))
-
-pub not-counted : (l : Log) (s f : List ℕ) (n : ℕ) → hangs l s ≡ true → l.ended ≡ false → tallied (to_the_end f) ≡ count.Refused n
-    → adding_many l s f ≡ refused n
-unfolding adding_many
-not-counted l s f n h g e = by (to_the_end f) refl where
-  by : (q : Cut) → to_the_end f ≡ q → adding_many l s f ≡ refused n
-  by torn q = let r : count.Refused Framing ≡ count.Refused n = rw q at e in let v : 4 ≡ n = cc r in rw (h, g, q, v)
-  by (whole ms) q =
-      by-test (small ms)
-      (λ z. let r : count.Blocks (length ms) ≡ count.Refused n = rw (q, z) at e in cc r)
-      (λ z. let r : count.Refused Overlong ≡ count.Refused n = rw (q, z) at e in let v : 2 ≡ n = cc r in rw (h, g, q, z, v))
+    (λ z. record { cuts = refl; sizes = z; number = sym (taken-same (length ms) n (rw z at e)) })
+    (λ z. not-both (tallied (whole ms)) Overlong n (rw z refl) e)

@@ -2,14 +2,10 @@
 -- Assumes nothing.
 use Rattle.std.specs.Prelude.{ℕ, zero, suc, ◌+◌, ◌-◌, ◌^◌, ◌≡◌, List, [], ◌∷◌, ◌++◌, Bool, true, not, ◌&&◌, length, take, drop}
 use Rattle.std.specs.Prelude.{if◌then◌else◌}
-use Rattle.wire.specs.Checks.{◌is◌, ◌at_most◌, Verdict, refused, taken, Check, ◌else◌, checked}
+use Rattle.wire.specs.Checks.{◌is◌, ◌at_most◌, Verdict, refused, taken, ◌told_by◌, Check, ◌else◌, checked}
 use Rattle.wire.specs.declared.refusal.Refusal.TheVariants.{Overlong, Framing, Bound, Room, Broken, AfterEnd}
 use Rattle.blocks.specs.Blocks.{frames, there, first, rest, Cut, torn, whole, before, cut, is_whole, messages_of}
-use Rattle.blocks.specs.declared.Count.{Count}
-use Rattle.blocks.specs.declared.Count.TheVariants as count
 use Rattle.lent_log.specs.declared.Log.{Log}
-use Rattle.lent_log.specs.declared.Logged.{Logged}
-use Rattle.lent_log.specs.declared.Logged.TheVariants.{Refused, After}
 
 -- the most bytes of a message, so that a packet can carry it
 abbrev pub longest : ℕ
@@ -86,14 +82,13 @@ declaring l s =
     checked (growing l s) (taken (record { log = record { count = l.count; used = l.used; ended = true }; bytes = s }))
 
 -- how many messages there are, or why they can't be added
-abbrev pub tallied : Cut → Count
-tallied torn = count.Refused Framing
-tallied (whole ms) = if small ms then count.Blocks (length ms) else count.Refused Overlong
+abbrev pub tallied : Cut → Verdict ℕ
+tallied torn = refused Framing
+tallied (whole ms) = if small ms then taken (length ms) else refused Overlong
 
--- the answer
-abbrev pub logged_of : Verdict Kept → Logged
-logged_of (refused n) = Refused n
-logged_of (taken k) = After k.log
+-- the answer: the refusal, or the log afterwards
+abbrev pub logged_of : Verdict Kept → Verdict Log
+logged_of v = v told_by (λ k. k.log)
 
 -- every lent byte afterwards
 abbrev pub left_of : List ℕ → Verdict Kept → List ℕ
@@ -101,6 +96,6 @@ left_of s (refused n) = s
 left_of s (taken k) = k.bytes
 
 -- the answer r and the bytes left are those of the verdict
-pub record Entered (v : Verdict Kept) (s : List ℕ) (r : Logged) (left : List ℕ) : Type 0 where
+pub record Entered (v : Verdict Kept) (s : List ℕ) (r : Verdict Log) (left : List ℕ) : Type 0 where
   pub answer : r ≡ logged_of v
   pub bytes : left ≡ left_of s v

@@ -1,62 +1,46 @@
 -- Each return is a law of `Entering`, which has an answer for each of the tests; what they said is handed to it.
-use mathlib.Core.Path.{◌≡◌}
-use mathlib.Core.Bool.{true}
-use native.Mathlib.Omega.{arith}
-use Rattle.wire.proofs.Tests.{held, failed}
-use Rattle.lent_log.specs.Log.{hangs}
-use Rattle.lent_log.proofs.Hanging.{Hangs, hanging}
-use Rattle.lent_log.proofs.Entering.{refuses, one-broken, one-late, one-long, one-over, one-crowded, one-entered}
-use Rattle.lent_log.proofs.add.Goals.{Else-not-hangs_together}
+use mathlib.Core.Path.{refl}
+use Rattle.wire.specs.Checks.{Passed}
+use Rattle.wire.proofs.Checks.{passed-on}
+use Rattle.lent_log.specs.Log.{growing}
+use Rattle.lent_log.proofs.Entering.{refuses, grows, one-closed, one-long, one-over, one-crowded, one-entered}
+use Rattle.lent_log.proofs.add.Goals.{In_ok-may_grow}
 use Rattle.lent_log.proofs.add.Goals as goal
 
-hung : (c : Else-not-hangs_together) → let a = c.args in hangs a.log a.bytes.now ≡ true
-hung c = held c.hangs_together.ensures c.if-not-hangs_together.false-raw
+open_log : (c : In_ok-may_grow) → Passed (growing c.args.log c.args.bytes.now)
+open_log c = grows c.args.log c.args.bytes.now c.may_grow.ensures.grows c.in_ok-may_grow.was
 
-known : (c : Else-not-hangs_together) → let a = c.args in Hangs a.log a.bytes.now
-known c = let a = c.args in hanging a.log a.bytes.now (hung c)
-
-pub returns-then-not-hangs_together : goal.returns-then-not-hangs_together
-returns-then-not-hangs_together c =
+pub returns-in_err-may_grow : goal.returns-in_err-may_grow
+returns-in_err-may_grow c =
     let a = c.args in
-    refuses _ _ 10 (one-broken a.log a.bytes.now a.message.now (failed c.hangs_together.ensures c.if-not-hangs_together.true-raw))
-
-pub returns-then-ended : goal.returns-then-ended
-returns-then-ended c =
-    let a = c.args in
-    refuses _ _ 13 (one-late a.log a.bytes.now a.message.now (hung (goal.at.returns-then-ended c).Else-not-hangs_together) c.if-ended.true)
+    let why = c.in_err-may_grow.field-0.0 in
+    refuses _ _ _ why (one-closed a.log a.bytes.now c.may_grow.ensures.grows a.message.now why c.in_err-may_grow.was)
+    (passed-on c.from_residual.result c.from_residual.ensures.1)
 
 pub returns-then-len-gt-LONGEST_MESSAGE : goal.returns-then-len-gt-LONGEST_MESSAGE
 returns-then-len-gt-LONGEST_MESSAGE c =
     let a = c.args in
-    refuses _ _ 2 (one-long a.log a.bytes.now a.message.now (hung (goal.at.returns-then-len-gt-LONGEST_MESSAGE c).Else-not-hangs_together)
-    c.if-ended.false c.if-len-gt-LONGEST_MESSAGE.true)
+    let g = open_log (goal.at.returns-then-len-gt-LONGEST_MESSAGE c).In_ok-may_grow in
+    refuses _ _ _ _ (one-long a.log a.bytes.now a.message.now g c.if-len-gt-LONGEST_MESSAGE.true) refl
 
-pub returns-then-count-eq-MOST_MESSAGES : goal.returns-then-count-eq-MOST_MESSAGES
-returns-then-count-eq-MOST_MESSAGES c =
+pub returns-then-log-eq-MOST_MESSAGES : goal.returns-then-log-eq-MOST_MESSAGES
+returns-then-log-eq-MOST_MESSAGES c =
     let a = c.args in
-    refuses _ _ 7
-    (one-over a.log a.bytes.now a.message.now (hung (goal.at.returns-then-count-eq-MOST_MESSAGES c).Else-not-hangs_together)
-    c.if-ended.false c.if-len-gt-LONGEST_MESSAGE.false c.if-count-eq-MOST_MESSAGES.true)
+    let g = open_log (goal.at.returns-then-log-eq-MOST_MESSAGES c).In_ok-may_grow in
+    refuses _ _ _ _
+    (one-over a.log a.bytes.now a.message.now g c.if-len-gt-LONGEST_MESSAGE.false c.if-log-eq-MOST_MESSAGES.true) refl
 
-pub overflow_sub-bytes : goal.overflow_sub-bytes
-overflow_sub-bytes c = (known (goal.at.overflow_sub-bytes c).Else-not-hangs_together).mark
-
-pub returns-then-bytes-used : goal.returns-then-bytes-used
-returns-then-bytes-used c =
+pub returns-then-bytes-log : goal.returns-then-bytes-log
+returns-then-bytes-log c =
     let a = c.args in
-    refuses _ _ 9
-    (one-crowded a.log a.bytes.now a.message.now (hung (goal.at.returns-then-bytes-used c).Else-not-hangs_together) c.if-ended.false
-    c.if-len-gt-LONGEST_MESSAGE.false
-    c.if-count-eq-MOST_MESSAGES.false c.if-bytes-used.true)
-
-pub overflow_add-result : goal.overflow_add-result
-overflow_add-result c =
-    let h = known (goal.at.overflow_add-result c).Else-not-hangs_together in
-    omega arith
+    let g = open_log (goal.at.returns-then-bytes-log c).In_ok-may_grow in
+    refuses _ _ _ _
+    (one-crowded a.log a.bytes.now a.message.now g c.if-len-gt-LONGEST_MESSAGE.false c.if-log-eq-MOST_MESSAGES.false c.if-bytes-log.true)
+    refl
 
 pub returns : goal.returns
 returns c =
     let a = c.args in
-    one-entered a.log a.bytes.now a.message.now (hung (goal.at.returns c).Else-not-hangs_together) c.if-ended.false
-    c.if-len-gt-LONGEST_MESSAGE.false
-    c.if-count-eq-MOST_MESSAGES.false c.if-bytes-used.false _ _ c.put2.ensures c.copy.ensures
+    let g = open_log (goal.at.returns c).In_ok-may_grow in
+    one-entered a.log a.bytes.now a.message.now g c.if-len-gt-LONGEST_MESSAGE.false c.if-log-eq-MOST_MESSAGES.false c.if-bytes-log.false _ _
+    c.put2.ensures c.copy.ensures

@@ -1,79 +1,57 @@
 -- Each return is a law of `Entering`, which has an answer for each of the tests; what they said is handed to it.
-use mathlib.Core.Path.{◌≡◌, sym, ◌∙◌}
-use mathlib.Core.Bool.{true, false}
-use Rattle.wire.proofs.Tests.{held, failed}
+use mathlib.Core.Path.{refl, sym, ◌∙◌}
+use Rattle.wire.specs.Checks.{Passed}
 use Rattle.wire.specs.Fields.{Bytes}
-use Rattle.lent_log.specs.Log.{hangs, to_the_end}
-use Rattle.lent_log.proofs.Hanging.{Hangs, hanging}
-use Rattle.lent_log.proofs.Entering.{refuses, many-broken, many-late, many-over, many-crowded, many-entered, room-for}
-use Rattle.lent_log.proofs.Many.{Tallied, counted, not-counted}
-use Rattle.lent_log.proofs.add_many.Goals.{Else-not-hangs_together, In-Blocks}
+use Rattle.wire.proofs.Checks.{passed-on}
+use Rattle.lent_log.specs.Log.{growing, to_the_end}
+use Rattle.lent_log.proofs.Many.{Tallied, counted}
+use Rattle.lent_log.proofs.Entering.{refuses, grows, many-closed, not-counted, many-over, many-crowded, many-entered}
+use Rattle.lent_log.proofs.add_many.Goals.{In_ok-may_grow, In_ok-more}
 use Rattle.lent_log.proofs.add_many.Goals as goal
 
-hung : (c : Else-not-hangs_together) → let a = c.args in hangs a.log a.bytes.now ≡ true
-hung c = held c.hangs_together.ensures c.if-not-hangs_together.false-raw
+open_log : (c : In_ok-may_grow) → Passed (growing c.args.log c.args.bytes.now)
+open_log c = grows c.args.log c.args.bytes.now c.may_grow.ensures.grows c.in_ok-may_grow.was
 
-known : (c : Else-not-hangs_together) → let a = c.args in Hangs a.log a.bytes.now
-known c = let a = c.args in hanging a.log a.bytes.now (hung c)
-
-messages : (c : In-Blocks) → Tallied (to_the_end c.args.framed.now) c.in-Blocks.more
-messages c =
-    counted _ _ (sym c.tally.ensures ∙ c.in-Blocks.is)
-
-goes_on : (c : In-Blocks) → c.args.log.ended ≡ false
-goes_on c = c.if-ended.false
+messages : (c : In_ok-more) → Tallied (to_the_end c.args.framed.now) c.in_ok-more.more
+messages c = counted _ _ (sym c.tally.ensures ∙ c.in_ok-more.was)
 
 -- the messages given are bytes
-framed-bytes : (c : Else-not-hangs_together) → Bytes c.args.framed.now
-framed-bytes c i = (c.shared_slice_known-1.given i).fits
+framed-bytes : (c : In_ok-more) → Bytes c.args.framed.now
+framed-bytes c i = (c.type_inv.framed i).fits
 
-pub returns-then-not-hangs_together : goal.returns-then-not-hangs_together
-returns-then-not-hangs_together c =
+pub returns-in_err-may_grow : goal.returns-in_err-may_grow
+returns-in_err-may_grow c =
     let a = c.args in
-    refuses _ _ 10 (many-broken a.log a.bytes.now a.framed.now (failed c.hangs_together.ensures c.if-not-hangs_together.true-raw))
+    let why = c.in_err-may_grow.field-0.0 in
+    refuses _ _ _ why (many-closed a.log a.bytes.now c.may_grow.ensures.grows a.framed.now why c.in_err-may_grow.was)
+    (passed-on c.from_residual.result c.from_residual.ensures.1)
 
-pub returns-then-ended : goal.returns-then-ended
-returns-then-ended c =
+pub returns-in_err-more : goal.returns-in_err-more
+returns-in_err-more c =
     let a = c.args in
-    refuses _ _ 13 (many-late a.log a.bytes.now a.framed.now (hung (goal.at.returns-then-ended c).Else-not-hangs_together) c.if-ended.true)
+    let g = open_log (goal.at.returns-in_err-more c).In_ok-may_grow in
+    let why = c.in_err-more.field-0.0 in
+    refuses _ _ _ why (not-counted a.log a.bytes.now a.framed.now g why (sym c.tally.ensures ∙ c.in_err-more.was))
+    (passed-on c.from_residual-in_err-more.result c.from_residual-in_err-more.ensures.1)
 
-pub overflow_sub-count : goal.overflow_sub-count
-overflow_sub-count c = (known (goal.at.overflow_sub-count c).Else-not-hangs_together).count
-
-pub returns-then-count-more : goal.returns-then-count-more
-returns-then-count-more c =
+pub returns-then-log-more : goal.returns-then-log-more
+returns-then-log-more c =
     let a = c.args in
-    refuses _ _ 7
-    (many-over a.log a.bytes.now a.framed.now (hung (goal.at.returns-then-count-more c).Else-not-hangs_together) (goes_on
-    (goal.at.returns-then-count-more c).In-Blocks) _ (messages (goal.at.returns-then-count-more c).In-Blocks) c.if-count-more.true)
+    let at = goal.at.returns-then-log-more c in
+    refuses _ _ _ _
+    (many-over a.log a.bytes.now a.framed.now (open_log at.In_ok-may_grow) _ (messages at.In_ok-more) c.if-log-more.true) refl
 
-pub overflow_sub-bytes : goal.overflow_sub-bytes
-overflow_sub-bytes c = (known (goal.at.overflow_sub-bytes c).Else-not-hangs_together).mark
-
-pub returns-then-bytes-used : goal.returns-then-bytes-used
-returns-then-bytes-used c =
+pub returns-then-bytes-log : goal.returns-then-bytes-log
+returns-then-bytes-log c =
     let a = c.args in
-    refuses _ _ 9
-    (many-crowded a.log a.bytes.now a.framed.now (hung (goal.at.returns-then-bytes-used c).Else-not-hangs_together) (goes_on
-    (goal.at.returns-then-bytes-used c).In-Blocks) _ (messages (goal.at.returns-then-bytes-used c).In-Blocks) c.if-count-more.false
-    (framed-bytes (goal.at.returns-then-bytes-used c).Else-not-hangs_together) c.if-bytes-used.true)
+    let at = goal.at.returns-then-bytes-log c in
+    refuses _ _ _ _
+    (many-crowded a.log a.bytes.now a.framed.now (open_log at.In_ok-may_grow) _ (messages at.In_ok-more) c.if-log-more.false
+    (framed-bytes at.In_ok-more) c.if-bytes-log.true) refl
 
-pub copy-requires : goal.copy-requires
-copy-requires c =
+pub returns : goal.returns
+returns c =
     let a = c.args in
-    room-for a.log a.bytes.now a.framed.now (known (goal.at.copy-requires c).Else-not-hangs_together) c.if-bytes-used.false
-
-pub returns-in-Refused : goal.returns-in-Refused
-returns-in-Refused c =
-    let a = c.args in
-    refuses _ _ _
-    (not-counted a.log a.bytes.now a.framed.now c.in-Refused.n (hung (goal.at.returns-in-Refused c).Else-not-hangs_together)
-    c.if-ended.false
-    (sym c.tally.ensures ∙ c.in-Refused.is))
-
-pub returns-else-bytes-used : goal.returns-else-bytes-used
-returns-else-bytes-used c =
-    let a = c.args in
-    many-entered a.log a.bytes.now a.framed.now (hung (goal.at.returns-else-bytes-used c).Else-not-hangs_together) (goes_on
-    (goal.at.returns-else-bytes-used c).In-Blocks) _ (messages (goal.at.returns-else-bytes-used c).In-Blocks) c.if-count-more.false
-    (framed-bytes (goal.at.returns-else-bytes-used c).Else-not-hangs_together) c.if-bytes-used.false _ c.copy.ensures
+    let at = goal.at.returns c in
+    many-entered a.log a.bytes.now a.framed.now (open_log at.In_ok-may_grow) _ (messages at.In_ok-more) c.if-log-more.false
+    (framed-bytes at.In_ok-more) c.if-bytes-log.false _ c.copy.ensures

@@ -1,21 +1,16 @@
-use mathlib.Core.Path.{◌≡◌}
-use mathlib.Core.Bool.{true}
-use Rattle.wire.proofs.Tests.{held, failed}
-use Rattle.lent_log.specs.Log.{hangs, declaring}
-use Rattle.lent_log.proofs.declare_end.Goals.{Else-not-hangs_together}
+-- What the log was asked first decides; the log that is answered is the one declared.
+use mathlib.Core.Path.{◌∙◌}
+use Rattle.wire.proofs.Checks.{passed-on}
+use Rattle.lent_log.specs.Log.{declaring}
+use Rattle.lent_log.proofs.Entering.{grows, end-closed}
 use Rattle.lent_log.proofs.declare_end.Goals as goal
 
-hung : (c : Else-not-hangs_together) → let a = c.args in hangs a.log a.bytes.now ≡ true
-hung c = held c.hangs_together.ensures c.if-not-hangs_together.false-raw
-
-pub returns-then-not-hangs_together : goal.returns-then-not-hangs_together
-unfolding declaring
-returns-then-not-hangs_together c = rw (failed c.hangs_together.ensures c.if-not-hangs_together.true-raw)
-
-pub returns-then-ended : goal.returns-then-ended
-unfolding declaring
-returns-then-ended c = rw (hung (goal.at.returns-then-ended c).Else-not-hangs_together, c.if-ended.true)
+pub returns-in_err-may_grow : goal.returns-in_err-may_grow
+returns-in_err-may_grow c =
+    let a = c.args in
+    passed-on c.from_residual.result c.from_residual.ensures.1
+    ∙ rw (end-closed a.log a.bytes.now c.may_grow.ensures.grows c.in_err-may_grow.field-0.0 c.in_err-may_grow.was)
 
 pub returns : goal.returns
 unfolding declaring
-returns c = rw (hung (goal.at.returns c).Else-not-hangs_together, c.if-ended.false)
+returns c = let a = c.args in let g = grows a.log a.bytes.now c.may_grow.ensures.grows c.in_ok-may_grow.was in rw (g.0, g.1.0)

@@ -5,19 +5,19 @@ use mathlib.Core.Path.{ap, sym, ◌∙◌}
 use mathlib.Core.Bool.{true, false}
 use native.Mathlib.Nat.{sub-zero}
 use native.Mathlib.Omega.{arith}
-use borrow.Author.Tests.{not-true, not-false}
 use lib.ListN.{length}
-use Rattle.blocks.proofs.NextBlock.{missed}
+use Rattle.wire.proofs.Checks.{passed-on}
+use Rattle.blocks.proofs.NextBlock.{stands, missed}
 use Rattle.lent_log.specs.Log.{cut_all, to_the_end}
 use Rattle.lent_log.proofs.Passes.{tally_from, tally-starts, tally-torn, tally-end, Turned, turned}
-use Rattle.lent_log.proofs.tally.Goals.{In-At}
+use Rattle.lent_log.proofs.tally.Goals.{In_ok-block}
 use Rattle.lent_log.proofs.tally.Goals as goal
 
 -- a turn that found a block
-step : (c : In-At) → Turned c.args.s.now c.loop-at.at c.loop-at.count c.loop-at.small c.in-At.length c.in-At.next
+step : (c : In_ok-block) → Turned c.args.s.now c.loop-at.at c.loop-at.count c.loop-at.small c.in_ok-block.block
 step c =
-    turned c.args.s.now c.loop-at.at c.loop-at.count c.loop-at.small c.loop-at.invariant.1 c.in-At.start c.in-At.length
-    c.in-At.next (sym c.next.ensures ∙ c.in-At.is)
+    let l = c.loop-at in
+    turned c.args.s.now l.at l.count l.small l.invariant.1 c.in_ok-block.block (stands _ _ c.next.ensures c.in_ok-block.was)
 
 pub loop-at-init : goal.loop-at-init
 loop-at-init c =
@@ -27,33 +27,32 @@ loop-at-init c =
       tally-starts (to_the_end s) ∙ ap (λ (n : ℕ). tally_from 0 true (cut_all (suc n) s)) (sym (sub-zero (length s))),
     )
 
-pub overflow_add-count : goal.overflow_add-count
-overflow_add-count c = omega arith
-
 pub loop-at-smaller : goal.loop-at-smaller
-loop-at-smaller c = (step c).less
+loop-at-smaller c = (step (goal.at.loop-at-smaller c).In_ok-block).less
 
 pub loop-at-preserved : goal.loop-at-preserved
-loop-at-preserved c = let t = step c in (t.inside, t.counts, c.loop-at.invariant.2 ∙ t.same)
+loop-at-preserved c =
+    let t = step (goal.at.loop-at-preserved c).In_ok-block in
+    (t.inside, t.counts, c.loop-at.invariant.2 ∙ t.same)
 
-pub returns-in-Refused : goal.returns-in-Refused
-returns-in-Refused c =
+pub returns-in_err-block : goal.returns-in_err-block
+returns-in_err-block c =
     let s = c.args.s.now in
-    let f = missed s c.loop-at.at c.in-Refused.n (sym c.next.ensures ∙ c.in-Refused.is) in
-    rw f.0
-    (sym (c.loop-at.invariant.2
-    ∙ tally-torn s c.loop-at.at (length s - c.loop-at.count) c.loop-at.count c.loop-at.small c.loop-at-test.true f.1))
+    let l = c.loop-at in
+    let f = missed s l.at c.in_err-block.field-0.0 (sym c.next.ensures ∙ c.in_err-block.was) in
+    passed-on c.from_residual.result c.from_residual.ensures.1
+    ∙ rw f.0 (sym (l.invariant.2 ∙ tally-torn s l.at (length s - l.count) l.count l.small c.loop-at-test.true f.1))
 
 pub returns-then-not-small : goal.returns-then-not-small
 returns-then-not-small c =
     let s = c.args.s.now in
-    sym (c.loop-at.invariant.2 ∙ tally-end s c.loop-at.at (length s - c.loop-at.count) c.loop-at.count c.loop-at.small false
-    (not-true c.loop-at.small c.if-not-small.true-raw)
-    c.loop-at-test.false)
+    let l = c.loop-at in
+    sym (l.invariant.2
+    ∙ tally-end s l.at (length s - l.count) l.count l.small false c.if-not-small.true c.loop-at-test.false)
 
 pub returns : goal.returns
 returns c =
     let s = c.args.s.now in
-    sym (c.loop-at.invariant.2 ∙ tally-end s c.loop-at.at (length s - c.loop-at.count) c.loop-at.count c.loop-at.small true
-    (not-false c.loop-at.small c.if-not-small.false-raw)
-    c.loop-at-test.false)
+    let l = c.loop-at in
+    sym (l.invariant.2
+    ∙ tally-end s l.at (length s - l.count) l.count l.small true c.if-not-small.false c.loop-at-test.false)
