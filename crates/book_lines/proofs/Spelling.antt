@@ -1,41 +1,36 @@
--- One digit further in a text: what stands in front and what is still to come spell the same as before.
+-- One character further in a text: what stands in front and what is still to come spell the same as before.
 -- Assumes nothing.
-use Rattle.std.proofs.Common.{◌≡◌, ℕ, ◌+◌, ◌*◌, ◌<◌, ◌≤◌, refl, ◌∙◌, add-one, arith, eq-eqb, ne_eqb}
-use Rattle.std.proofs.Common.{List, ◌++◌, length, get_or, take, drop, set, append_assoc, append-nil, length-set, drop_of_length-le}
-use Rattle.std.proofs.Common.{drop-cons, take-suc-set}
-use Rattle.book_lines.specs.Hex.{digit, onto, spelt, Put}
-use Rattle.book_lines.specs.declared.hex.Spelling.{Spelling}
-
-module _ (n high low : ℕ) (out : List ℕ) where
-  pub put-none : high ≤ 16 → low ≡ 16 → Put n high low out (record { count = n; high = high }) out
-  put-none h e = record { count = omega arith; waits = h; size = refl; spells = λ rest. rw (eq-eqb low 16 e) }
-
-  pub put-high : low ≤ 16 → (low ≡ 16 → ⊥) → high ≡ 16 → Put n high low out (record { count = n; high = low }) out
-  put-high h f e = record { count = omega arith; waits = h; size = refl; spells = λ rest. rw (ne_eqb low 16 f, eq-eqb high 16 e) }
-
-  pub put_low : n < length out → (low ≡ 16 → ⊥) → (high ≡ 16 → ⊥) → Put n high low out (record { count = n + 1; high = 16 })
-      (set out n (high * 16 + low))
-  put_low h f g = record {
-    count = omega arith;
-    waits = omega arith;
-    size = length-set out n (high * 16 + low);
-    spells = λ rest. rw (ne_eqb low 16 f, ne_eqb high 16 g, add-one, take-suc-set, append_assoc);
-  }
+use Rattle.std.proofs.Common.{◌≡◌, ℕ, ◌+◌, ◌*◌, ◌<◌, ◌≤◌, add-one}
+use Rattle.std.proofs.Common.{List, ◌++◌, length, slice_index_or, take, drop, append_assoc, append-nil, set, take-suc-set, drop_of_length-le, drop-cons}
+use Rattle.std.proofs.Common.{Option, Some, None}
+use Rattle.book_lines.specs.Hex.{digit, onto, spelt}
 
 -- the next character of a text
-one_more : (high i : ℕ) (text : List ℕ) → i < length text → spelt high (drop i text) ≡ onto high (digit (get_or text i 0))
-    (λ h. spelt h (drop (i + 1) text))
+one_more : (high : Option ℕ) (i : ℕ) (text : List ℕ) → i < length text
+    → spelt high (drop i text) ≡ onto high (digit (slice_index_or text i 0)) (λ h. spelt h (drop (i + 1) text))
 unfolding spelt
 one_more high i text h = rw (add-one, drop-cons text i 0)
 
--- the text before it is spelt, and then the text with it
-module _ (n high low i : ℕ) (text out left : List ℕ) (r : Spelling) where
-  pub further : i < length text → low ≡ digit (get_or text i 0) → Put n high low out r left → take n out ++ spelt high (drop i text) ≡ spelt
-      16 text → take r.count left ++ spelt r.high (drop (i + 1) text) ≡ spelt 16 text
-  further h d p e = p.spells (λ g. spelt g (drop (i + 1) text)) ∙ rw (d, ← one_more high i text h) e
+module _ (i : ℕ) (text : List ℕ) (inside : i < length text) where
+  -- it is no digit
+  pub skips : (high : Option ℕ) → digit (slice_index_or text i 0) ≡ None → spelt high (drop (i + 1) text) ≡ spelt high (drop i text)
+  unfolding onto
+  skips high e = rw (one_more high i text inside, e)
+
+  -- it is the first digit of a byte
+  pub waits : (low : ℕ) → digit (slice_index_or text i 0) ≡ Some low → spelt (Some low) (drop (i + 1) text) ≡ spelt None (drop i text)
+  unfolding onto
+  waits low e = rw (one_more None i text inside, e)
+
+  -- it is the second one, and the byte is put
+  pub pairs : (count high low : ℕ) (out : List ℕ) → count < length out
+      → digit (slice_index_or text i 0) ≡ Some low
+      → take (count + 1) (set out count (high * 16 + low)) ++ spelt None (drop (i + 1) text) ≡ take count out ++ spelt (Some high) (drop i text)
+  unfolding onto
+  pairs count high low out room e = rw (one_more (Some high) i text inside, e, add-one, take-suc-set, append_assoc)
 
 -- nothing is still to come
-pub no_more : (high i : ℕ) (text front : List ℕ) → length text ≤ i → front ++ spelt high (drop i text) ≡ spelt 16 text
-    → front ≡ spelt 16 text
+pub no_more : (high : Option ℕ) (i : ℕ) (text front : List ℕ) → length text ≤ i → front ++ spelt high (drop i text) ≡ spelt None text
+    → front ≡ spelt None text
 unfolding spelt
 no_more high i text front h e = rw (drop_of_length-le, append-nil) at e

@@ -1,46 +1,16 @@
 // Bytes in a text, as hexadecimal digits in capitals.
-ghost use Rattle.std.specs.Prelude.{◌≡◌, ◌<◌, ◌≤◌, length, take};
+ghost use Rattle.std.specs.Prelude.{◌≡◌, ◌<◌, IfSome, length, take};
 ghost use Rattle.book_lines.specs.Hex as Hex;
 
-// What stands for a digit where there is none.
-const NONE: u8 = 16;
-
-// How many bytes are put, and the digit that waits for its second one.
-#[derive(Clone, Copy)]
-struct Spelling {
-    count: usize,
-    high: u8,
-}
-
-fn digit(b: u8) -> u8
-    ensures { (result ≡ Hex.digit b) × (result ≤ 16) }
+#[tactic(auto, unfolding(crate::specs::Hex::digit))]
+fn digit(b: u8) -> Option<u8>
+    ensures value { result ≡ Hex.digit b }
+    ensures bound { IfSome result (λ d. d < 16) }
 {
-    if (b'0' <= b) & (b <= b'9') {
-        return b - b'0';
-    }
-    if (b'A' <= b) & (b <= b'F') {
-        return b - b'A' + 10;
-    }
-    NONE
-}
-
-fn put(out: &mut [u8], n: usize, high: u8, low: u8) -> Spelling
-    requires { (n < length out.old) × (high ≤ 16) × (low ≤ 16) }
-    ensures { Hex.Put n high low out.old result out.new }
-{
-    if low == NONE {
-        return Spelling { count: n, high };
-    }
-    if high == NONE {
-        return Spelling {
-            count: n,
-            high: low,
-        };
-    }
-    out[n] = high * 16 + low;
-    Spelling {
-        count: n + 1,
-        high: NONE,
+    match b {
+        b'0'..=b'9' => Some(b - b'0'),
+        b'A'..=b'F' => Some(b - b'A' + 10),
+        _ => None,
     }
 }
 
@@ -52,14 +22,18 @@ pub(crate) fn decode(text: &[u8], out: &mut [u8]) -> usize
     if out.len() < text.len() {
         return 0;
     }
-    let mut s = Spelling {
-        count: 0,
-        high: NONE,
-    };
-    let mut i = 0;
-    while i < text.len() {
-        s = put(out, s.count, s.high, digit(text[i]));
-        i += 1;
+    let mut count = 0;
+    let mut waits = None;
+    for b in text {
+        match (waits, digit(*b)) {
+            (_, None) => {}
+            (None, Some(low)) => waits = Some(low),
+            (Some(high), Some(low)) => {
+                out[count] = high * 16 + low;
+                count += 1;
+                waits = None;
+            }
+        }
     }
-    s.count
+    count
 }
