@@ -1,20 +1,16 @@
--- `is_spaces_then_text` meets its contract: spaces are passed over, and then text must follow to the end.
-use mathlib.Core.Path.{sym, ◌∙◌}
-use Rattle.text.proofs.Padding.{ends, spaces-go-on, spaces-stop}
+use Rattle.std.proofs.Common.{rules, tests}
+use Rattle.std.proofs.lemmas.Iterator.{YieldsList-from_slice}
+use Rattle.std.proofs.lemmas.Iterator.Adapters.{YieldsList-from_skip_while}
+use Rattle.std.proofs.lemmas.Iterator.Search.{all_from_yields_List}
+use mathlib.Core.Path.{◌∙◌}
+use Rattle.text.specs.Text.{letter_or_digit}
+use Rattle.text.proofs.Padding.{space, behind-spaces}
 use Rattle.text.proofs.is_spaces_then_text.Goals as goal
-
-pub returns-then-t-i-ne32 : goal.returns-then-t-i-ne32
-returns-then-t-i-ne32 c =
-    let t = c.args.t.now in
-    c.text_from.ensures ∙ sym (c.loop-i.invariant ∙ spaces-stop t c.loop-i.i c.loop-i-test.true
-    c.if-t-i-ne32.true)
-
-pub loop-i-preserved : goal.loop-i-preserved
-loop-i-preserved c =
-    let t = c.args.t.now in
-    c.loop-i.invariant ∙ spaces-go-on t c.loop-i.i c.loop-i-test.true c.if-t-i-ne32.false
 
 pub returns : goal.returns
 returns c =
-    let t = c.args.t.now in
-    sym (c.loop-i.invariant ∙ (ends t c.loop-i.i c.loop-i-test.false).3)
+    all_from_yields_List letter_or_digit _ _ _ c.all.ensures.ran
+    (YieldsList-from_skip_while _ _ _ space _ (λ x b q k. search (rules, tests)) (YieldsList-from_slice c.args.t.now cc)
+    c.skip_while.ensures.closure c.skip_while.ensures.done_skipping)
+    (λ x b q k. search (rules, tests))
+    ∙ behind-spaces c.args.t.now

@@ -1,23 +1,16 @@
--- `is_text_then_spaces` meets its contract: text is passed over, and then spaces must follow to the end.
-use mathlib.Core.Path.{sym, ◌∙◌}
-use borrow.Author.Tests.{not-true, not-false}
-use Rattle.text.proofs.Padding.{ends, text-goes-on, text-stops}
+use Rattle.std.proofs.Common.{rules, tests}
+use Rattle.std.proofs.lemmas.Iterator.{YieldsList-from_slice}
+use Rattle.std.proofs.lemmas.Iterator.Adapters.{YieldsList-from_skip_while}
+use Rattle.std.proofs.lemmas.Iterator.Search.{all_from_yields_List}
+use mathlib.Core.Path.{◌∙◌}
+use Rattle.text.specs.Text.{letter_or_digit}
+use Rattle.text.proofs.Padding.{space, behind-text}
 use Rattle.text.proofs.is_text_then_spaces.Goals as goal
-
-pub returns-then-not-is_letter_or_digit : goal.returns-then-not-is_letter_or_digit
-returns-then-not-is_letter_or_digit c =
-    let t = c.args.t.now in
-    let s = text-stops t c.loop-i.i c.loop-i-test.true
-    (sym c.is_letter_or_digit.ensures ∙ not-true c.is_letter_or_digit.result c.if-not-is_letter_or_digit.true-raw) in
-    c.blank_from.ensures ∙ sym (c.loop-i.invariant ∙ s.1)
-
-pub loop-i-preserved : goal.loop-i-preserved
-loop-i-preserved c =
-    let t = c.args.t.now in
-    c.loop-i.invariant ∙ (text-goes-on t c.loop-i.i c.loop-i-test.true
-    (sym c.is_letter_or_digit.ensures ∙ not-false c.is_letter_or_digit.result c.if-not-is_letter_or_digit.false-raw)).1
 
 pub returns : goal.returns
 returns c =
-    let t = c.args.t.now in
-    sym (c.loop-i.invariant ∙ (ends t c.loop-i.i c.loop-i-test.false).2)
+    all_from_yields_List space _ _ _ c.all.ensures.ran
+    (YieldsList-from_skip_while _ _ _ letter_or_digit _ (λ x b q k. search (rules, tests)) (YieldsList-from_slice c.args.t.now cc)
+    c.skip_while.ensures.closure c.skip_while.ensures.done_skipping)
+    (λ x b q k. search (rules, tests))
+    ∙ behind-text c.args.t.now
