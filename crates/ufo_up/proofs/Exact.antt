@@ -63,7 +63,7 @@ read-is-written d b ms e =
     let p = all-passed (opening d) (read_cut (upstream d)) ms e in
     by (upstream d) refl p.1 (leb-true (length d) limit p.0.1.0) where
       by : (q : Cut) → upstream d ≡ q → read_cut q ≡ taken ms → length d ≤ limit → Fit ms × (write_up ms ≡ d)
-      by torn u r l = not-both (refused Framing) 4 ms refl r
+      by torn u r l = not-both (refused Framing) Framing ms refl r
       by (whole bs) u r l =
           let f = frames-upstream d bs b u in
           let w = write-each bs f.3 ms r in

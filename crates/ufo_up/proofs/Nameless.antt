@@ -40,7 +40,7 @@ module _ (password session : List ℕ) (p : Field 10 password) (s : Field 10 ses
   -- and any packet in which every message before it is taken, whatever comes after it
   pub nameless-among-others-is-6 : (d : List ℕ) (before after : List (List ℕ)) (ms : List Message) → length d ≤ limit
       → upstream d ≡ whole (before ++ (nameless ∷ after)) → read_each before ≡ taken ms → read_up d ≡ refused Absent
-  nameless-among-others-is-6 d before after ms l u t = first-refused d before nameless after ms 6 l u t nameless-is-6
+  nameless-among-others-is-6 d before after ms l u t = first-refused d before nameless after ms Absent l u t nameless-is-6
 
 -- type 76 is L: it is not taken, whatever else it says
 pub nameless-is-no-login : (m : List ℕ) (said : Message) → kind m ≡ 76 → read_message m ≡ taken said → blank (user_l m) ≡ true → ⊥

@@ -10,6 +10,7 @@ use borrow.Author.Tests.{eq-eqb}
 use lib.ListN.{length, drop}
 use Rattle.wire.specs.Checks.{◌is◌, Verdict, refused, taken, Check, ◌else◌, checked, ordered, ◌into◌}
 use Rattle.wire.specs.Datagram.{limit, opening}
+use Rattle.wire.specs.declared.refusal.Refusal.{Refusal}
 use Rattle.wire.specs.declared.refusal.Refusal.TheVariants.{UnknownType, Framing}
 use Rattle.wire.proofs.Tests.{by-test}
 use Rattle.wire.proofs.Checks.{into-checked}
@@ -101,10 +102,10 @@ read-is-checked d = by (upstream d) where
   by (whole bs) = rw (each-is-checked bs)
 
 -- the first message that is refused gives the packet its number
-pub first-refused : (d : List ℕ) (before : List (List ℕ)) (b : List ℕ) (after : List (List ℕ)) (ms : List Message) (n : ℕ)
-    → length d ≤ limit → upstream d ≡ whole (before ++ (b ∷ after)) → read_each before ≡ taken ms → read_message b ≡ refused n
-    → read_up d ≡ refused n
+pub first-refused : (d : List ℕ) (before : List (List ℕ)) (b : List ℕ) (after : List (List ℕ)) (ms : List Message) (why : Refusal)
+    → length d ≤ limit → upstream d ≡ whole (before ++ (b ∷ after)) → read_each before ≡ taken ms → read_message b ≡ refused why
+    → read_up d ≡ refused why
 unfolding read_each
-first-refused d before b after ms n l u t e =
+first-refused d before b after ms why l u t e =
     let bs = before ++ (b ∷ after) in
     opened d (λ z. not-torn (upstream d) bs (rw (eq-eqb (length d) 0 z)) u) l ∙ rw (u, each_append before (b ∷ after), t, e)

@@ -129,4 +129,4 @@ write-message s b m =
     (came-by k 85 (checks_u s) _ m _ (written-U s b m)
     (came-by k 82 (checks_alone s) _ m _ (written-alone s b m heartbeat 82 tt refl (omega arith))
     (came-by k 79 (checks_alone s) _ m _ (written-alone s b m logout 79 tt refl (omega arith))
-    (not-both (refused UnknownType) 3 m refl)))))
+    (not-both (refused UnknownType) UnknownType m refl)))))

@@ -9,10 +9,11 @@ use borrow.Author.Tests.{eq-eqb, ne_eqb}
 use lib.ListN.{length}
 use Rattle.wire.specs.Fields.{Bytes}
 use Rattle.wire.specs.Checks.{Verdict, refused, taken}
+use Rattle.wire.specs.declared.refusal.Refusal.{Refusal}
 use Rattle.wire.specs.declared.refusal.Refusal.TheVariants.{Framing}
 use Rattle.wire.proofs.Checks.{not-both}
 use Rattle.blocks.specs.Blocks.{end_at, block_at}
-use Rattle.blocks.specs.declared.Block.TheVariants as block
+use Rattle.blocks.specs.declared.Block.{Block}
 use Rattle.blocks.proofs.Frames.{frames-none}
 use Rattle.blocks.proofs.NextBlock.{Stands, found, missed}
 use Rattle.ufo_up.specs.Up.{Message, write_message, write_up, read_up, message_at, message_from, message_in, is_taken}
@@ -45,18 +46,18 @@ module _ (d : List ℕ) (bytes : Bytes d) (place at : ℕ) (r : Reaches d place 
   at-end : read_up d ≡ taken (r.gone ++ []) → length d < end_at d at
   at-end e = omega (arith, r.reached, read-last d bytes r.gone (rw append-nil at e))
 
-  pub reaches_more : at < place → (start size next : ℕ) → block_at d at ≡ block.At start size next → Reaches d place next × (at < next)
+  pub reaches_more : at < place → (block : Block) → block_at d at ≡ taken block → Reaches d place block.next × (at < block.next)
   unfolding message_from
-  reaches_more h start size next f =
-      let w = found d at start size next f in
-      (by r.others r.read r.answer w, omega arith) where
-        by : (b : List Message) → read_up d ≡ taken (r.gone ++ b) → message_in d place ≡ message_from at b place → Stands d at size next
-            → Reaches d place next
-        by [] e q w = absurd (omega (arith, at-end e))
+  reaches_more h block f =
+      let w = found d at block f in
+      (by r.others r.read r.answer w, omega (arith, w.ends)) where
+        by : (b : List Message) → read_up d ≡ taken (r.gone ++ b) → message_in d place ≡ message_from at b place → Stands d at block
+            → Reaches d place block.next
+        by [] e q w = absurd (omega (arith, w.inside, at-end e))
         by (m ∷ b) e q w =
             let more : read_up d ≡ taken ((r.gone ++ (m ∷ [])) ++ b) = rw (append_assoc r.gone (m ∷ []) b) e in
-            let end : next ≡ length (write_up (r.gone ++ (m ∷ []))) = w.0 ∙ rw r.reached (read-there d bytes r.gone m b e).1 in
-            let same : at + 2 + length (write_message m) ≡ next = omega (arith, r.reached, length_more r.gone m) in
+            let end : block.next ≡ length (write_up (r.gone ++ (m ∷ []))) = w.ends ∙ rw r.reached (read-there d bytes r.gone m b e).1 in
+            let same : at + 2 + length (write_message m) ≡ block.next = omega (arith, r.reached, length_more r.gone m) in
             record {
               gone = r.gone ++ (m ∷ []);
               others = b;
@@ -65,14 +66,14 @@ module _ (d : List ℕ) (bytes : Bytes d) (place at : ℕ) (r : Reaches d place 
               answer = q ∙ rw (ne_eqb at place (λ z. omega arith), same);
             }
 
-  pub reaches-out : (n : ℕ) → block_at d at ≡ block.Refused n → message_in d place ≡ refused n
+  pub reaches-out : (why : Refusal) → block_at d at ≡ refused why → message_in d place ≡ refused why
   unfolding message_from
   reaches-out n f = by r.others r.read r.answer where
     by : (b : List Message) → read_up d ≡ taken (r.gone ++ b) → message_in d place ≡ message_from at b place
         → message_in d place ≡ refused n
     by [] e q = rw (missed d at n f).0 q
     by (m ∷ b) e q =
-        not-both (message_at d at) 4 m (over-at d at (missed d at n f).1) (rw r.reached (read-there d bytes r.gone m b e).0)
+        not-both (message_at d at) Framing m (over-at d at (missed d at n f).1) (rw r.reached (read-there d bytes r.gone m b e).0)
 
   pub reaches-past : place < at → message_in d place ≡ refused Framing
   reaches-past h = r.answer ∙ passed-by at place r.others h

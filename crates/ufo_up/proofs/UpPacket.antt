@@ -8,19 +8,24 @@ use borrow.Author.Tests.{le-leb, ne_eqb}
 use lib.ListN.{length}
 use Rattle.wire.specs.Checks.{Verdict, refused, taken, ◌into◌}
 use Rattle.wire.specs.Datagram.{limit}
-use Rattle.wire.proofs.Tests.{impossible}
+use Rattle.wire.specs.declared.refusal.Refusal.{Refusal}
+use Rattle.wire.specs.declared.refusal.Refusal.TheVariants.{Framing}
+use Rattle.wire.proofs.Checks.{not-both, taken-same}
 use Rattle.blocks.specs.Blocks.{Cut, torn, whole, upstream, is_whole, messages_of, count_of}
-use Rattle.blocks.specs.declared.Count.TheVariants as count
-use Rattle.ufo_up.specs.Up.{Message, read_message, read_each, read_cut, read_up, upstream_of}
-use Rattle.ufo_up.specs.declared.up.Upstream.TheVariants as packet
+use Rattle.ufo_up.specs.Up.{Message, read_message, read_each, read_cut, read_up}
 
 pub opened : (d : List ℕ) → (length d ≡ 0 → ⊥) → length d ≤ limit → read_up d ≡ read_cut (upstream d)
 unfolding read_up
 opened d some h = rw (ne_eqb (length d) 0 some, le-leb (length d) limit h)
 
-pub torn-count : (q : Cut) (n : ℕ) → count_of q ≡ count.Refused n → packet.Refused n ≡ upstream_of (read_cut q)
-torn-count torn n e = cc
-torn-count (whole ms) n e = cc
+pub torn-count : (q : Cut) (why : Refusal) → count_of q ≡ refused why → read_cut q ≡ refused why
+torn-count torn why e = cc
+torn-count (whole ms) why e = cc
+
+-- as many messages as blocks were counted
+pub as-many : (q : Cut) (n : ℕ) → count_of q ≡ taken n → length (messages_of q) ≡ n
+as-many torn n e = not-both (count_of torn) Framing n refl e
+as-many (whole ms) n e = taken-same (length ms) n e
 
 pub whole-read : (q : Cut) → is_whole q ≡ true → read_cut q ≡ read_each (messages_of q)
 whole-read torn w = absurd (true≢false (sym w))
@@ -42,16 +47,3 @@ each_append (b ∷ bs) more = rw (each_append bs more) (by (read_message b) (rea
   by (taken m) (refused n) w = refl
   by (taken m) (taken ms) (refused n) = refl
   by (taken m) (taken ms) (taken os) = refl
-
--- what the answer says of the packet
-pub record Took (v : Verdict (List Message)) : Type 0 where
-  pub messages : List Message
-  pub is : v ≡ taken messages
-
-pub was-taken : (v : Verdict (List Message)) (k : ℕ) → upstream_of v ≡ packet.Messages k → Took v
-was-taken (refused n) k e = impossible cc
-was-taken (taken ms) k e = record { messages = ms; is = refl }
-
-pub was-refused : (v : Verdict (List Message)) (n : ℕ) → upstream_of v ≡ packet.Refused n → v ≡ refused n
-was-refused (refused m) n e = cc
-was-refused (taken ms) n e = cc

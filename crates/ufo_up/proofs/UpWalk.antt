@@ -9,18 +9,16 @@ use native.Mathlib.Omega.{arith}
 use borrow.Author.Tests.{le-leb, ne_eqb}
 use lib.ListN.{length, take, drop, get_or, length-append, drop_of_length-le}
 use lib.Seq.{drop_at, drop-cons}
-use Rattle.wire.specs.Checks.{Verdict, refused, taken, ◌into◌}
-use Rattle.wire.proofs.Tests.{impossible}
+use Rattle.wire.specs.Checks.{Verdict, refused, taken, ◌into◌, ◌told_by◌}
+use Rattle.wire.specs.declared.refusal.Refusal.{Refusal}
+use Rattle.wire.proofs.Checks.{told, told-refused}
 use Rattle.blocks.specs.Blocks.{frame, frames, stated, upstream, messages_of, end_at, Each, Short, Full}
-use Rattle.blocks.specs.declared.Place.TheVariants as place
 use Rattle.blocks.proofs.Frames.{length-frame, front-stated, front-first}
-use Rattle.blocks.proofs.Places.{each_at, placed, placed-next, frames-around, not-all, all}
+use Rattle.blocks.proofs.Places.{each_at, placed, frames-around}
 use Rattle.blocks.proofs.Cutting.{Framed}
 use Rattle.blocks.proofs.Skipping.{end_framed, end-placed}
-use Rattle.ufo_up.specs.Up.{Message, login, request, unsequenced, heartbeat, logout, read_message, read_each, message_at, up_of, next_of}
-use Rattle.ufo_up.specs.Up.{upstream_of}
-use Rattle.ufo_up.specs.declared.up.Upstream.{Upstream}
-use Rattle.ufo_up.specs.declared.up.Upstream.TheVariants as packet
+use Rattle.ufo_up.specs.Up.{Message, read_message, read_each, message_at, placed_of}
+use Rattle.ufo_up.specs.declared.up.Placed.{Placed}
 
 -- the message that was framed at a place
 pub framed_at : (a m t : List ℕ) → Short m → Full m → message_at (a ++ (frame m ++ t)) (length a) ≡ read_message m
@@ -45,102 +43,63 @@ message-at bs k short full h =
     (framed_at (frames (take k bs)) (get_or bs k []) (frames (drop (k + 1) bs)) (each_at Short bs k short h) (each_at Full bs k full h))
 
 -- how many messages, after k that were counted before
-abbrev pub counted : ℕ → Verdict (List Message) → Upstream
-counted k (refused n) = packet.Refused n
-counted k (taken ms) = packet.Messages (k + length ms)
+abbrev pub counted : ℕ → Verdict (List Message) → Verdict ℕ
+counted k v = v told_by (λ ms. k + length ms)
 
-pub counted_none : (v : Verdict (List Message)) → upstream_of v ≡ counted 0 v
-counted_none (refused n) = refl
-counted_none (taken ms) = ap packet.Messages (sym (zero-add (length ms)))
+counted_none : (v : Verdict (List Message)) → v told_by length ≡ counted 0 v
+counted_none (refused why) = refl
+counted_none (taken ms) = ap (λ (n : ℕ). taken n) (sym (zero-add (length ms)))
 
 module _ (bs : List (List ℕ)) (k : ℕ) where
-  pub counted-all : length bs ≤ k → counted k (read_each (drop k bs)) ≡ packet.Messages k
+  counted-all : length bs ≤ k → counted k (read_each (drop k bs)) ≡ taken k
   unfolding read_each
-  counted-all h = rw (drop_of_length-le bs h) (ap packet.Messages (add-zero k))
+  counted-all h = rw (drop_of_length-le bs h) (ap (λ (n : ℕ). taken n) (add-zero k))
 
   module _ (h : k < length bs) where
-    pub counted-more : (m : Message) → read_message (get_or bs k []) ≡ taken m
+    counted-more : (m : Message) → read_message (get_or bs k []) ≡ taken m
         → counted k (read_each (drop k bs)) ≡ counted (k + 1) (read_each (drop (k + 1) bs))
     unfolding read_each
     counted-more m e = rw (drop-cons bs k [] h, add-one, e) (by (read_each (drop (suc k) bs))) where
       by : (v : Verdict (List Message)) → counted k (v into (λ ms. taken (m ∷ ms))) ≡ counted (suc k) v
-      by (refused n) = refl
-      by (taken ms) = ap packet.Messages (add-suc k (length ms) ∙ sym (suc-add k (length ms)))
+      by (refused why) = refl
+      by (taken ms) = ap (λ (n : ℕ). taken n) (add-suc k (length ms) ∙ sym (suc-add k (length ms)))
 
-    pub counted_stop : (n : ℕ) → read_message (get_or bs k []) ≡ refused n → counted k (read_each (drop k bs)) ≡ packet.Refused n
+    counted_stop : (why : Refusal) → read_message (get_or bs k []) ≡ refused why → counted k (read_each (drop k bs)) ≡ refused why
     unfolding read_each
-    counted_stop n e = rw (drop-cons bs k [] h, e)
-
--- what the next place says of the message
-pub record Went (v : Verdict Message) (end next : ℕ) : Type 0 where
-  pub message : Message
-  pub is : v ≡ taken message
-  pub ends : next ≡ end
-
-module _ (end : ℕ) where
-  pub went : (v : Verdict Message) (next : ℕ) → next_of (up_of end v) ≡ place.At next → Went v end next
-  went (refused n) next e = impossible cc
-  went (taken (login u w s)) next e = record { message = login u w s; is = refl; ends = cc }
-  went (taken (request n c)) next e = record { message = request n c; is = refl; ends = cc }
-  went (taken (unsequenced b)) next e = record { message = unsequenced b; is = refl; ends = cc }
-  went (taken heartbeat) next e = record { message = heartbeat; is = refl; ends = cc }
-  went (taken logout) next e = record { message = logout; is = refl; ends = cc }
-
-  pub stopped : (v : Verdict Message) (n : ℕ) → next_of (up_of end v) ≡ place.Refused n → v ≡ refused n
-  stopped (refused m) n e = cc
-  stopped (taken (login u w s)) n e = cc
-  stopped (taken (request m c)) n e = cc
-  stopped (taken (unsequenced b)) n e = cc
-  stopped (taken heartbeat) n e = cc
-  stopped (taken logout) n e = cc
+    counted_stop why e = rw (drop-cons bs k [] h, e)
 
 -- after k messages that were taken the place `at` is reached, and the others are still to be read
 pub record Reached (d : List ℕ) (at k : ℕ) : Type 0 where
-  pub some : k ≤ length (messages_of (upstream d))
   pub place : at ≡ placed (messages_of (upstream d)) k
-  pub few : k ≤ at
-  pub answer : upstream_of (read_each (messages_of (upstream d))) ≡ counted k (read_each (drop k (messages_of (upstream d))))
+  pub answer : read_each (messages_of (upstream d)) told_by length ≡ counted k (read_each (drop k (messages_of (upstream d))))
 
 pub reached-none : (d : List ℕ) → Reached d 0 0
 unfolding frames
-reached-none d =
-    record { some = omega arith; place = refl; few = omega arith; answer = counted_none (read_each (messages_of (upstream d))) }
+reached-none d = record { place = refl; answer = counted_none (read_each (messages_of (upstream d))) }
 
 module _ (d : List ℕ) (at k : ℕ) (f : Framed d (messages_of (upstream d))) (r : Reached d at k) where
   abbrev bs : List (List ℕ)
   bs = messages_of (upstream d)
 
-  module _ (l : at < length d) where
-    another : k < length bs
-    another = not-all bs k (rw (f.bytes, ← r.place) l)
-
+  module _ (h : k < length bs) where
     same-message : message_at d at ≡ read_message (get_or bs k [])
-    same-message = rw r.place (rw f.bytes at (message-at bs k f.short f.full another))
+    same-message = rw r.place (rw f.bytes at (message-at bs k f.short f.full h))
 
     same_end : end_at d at ≡ placed bs (k + 1)
-    same_end = rw r.place (rw f.bytes at (end-placed bs k f.short another))
+    same_end = rw r.place (rw f.bytes at (end-placed bs k f.short h))
 
-    pub reached-more : (next : ℕ) → next_of (up_of (end_at d at) (message_at d at)) ≡ place.At next → Reached d next (k + 1) × (at < next)
-    reached-more next e =
-        let w = went (end_at d at) (message_at d at) next e in
-        let p : next ≡ placed bs (k + 1) = w.ends ∙ same_end in
-        let n = placed-next bs k another in
-        let h = another in
-        let q = r.few in
-        let a = r.place in (
-          record {
-            some = omega arith;
-            place = p;
-            few = omega arith;
-            answer = r.answer ∙ counted-more bs k another w.message (sym same-message ∙ w.is);
-          },
-          omega arith,
-        )
+    pub reached-more : (p : Placed) → message_at d at told_by placed_of (end_at d at) ≡ taken p → Reached d p.next (k + 1)
+    reached-more p e =
+        let t = told (message_at d at) (placed_of (end_at d at)) p e in
+        record {
+          place = ap (λ (q : Placed). q.next) (sym t.gave) ∙ same_end;
+          answer = r.answer ∙ counted-more bs k h t.by (sym same-message ∙ t.was);
+        }
 
-    pub reached-stop : (n : ℕ) → next_of (up_of (end_at d at) (message_at d at)) ≡ place.Refused n
-        → packet.Refused n ≡ upstream_of (read_each bs)
-    reached-stop n e =
-        sym (r.answer ∙ counted_stop bs k another n (sym same-message ∙ stopped (end_at d at) (message_at d at) n e))
+    pub reached-stop : (why : Refusal) → message_at d at told_by placed_of (end_at d at) ≡ refused why
+        → read_each bs told_by length ≡ refused why
+    reached-stop why e =
+        r.answer ∙ counted_stop bs k h why (sym same-message ∙ told-refused (message_at d at) (placed_of (end_at d at)) why e)
 
-  pub reached-end : length d ≤ at → packet.Messages k ≡ upstream_of (read_each bs)
-  reached-end l = sym (r.answer ∙ counted-all bs k (all bs k (rw (f.bytes, ← r.place) l)))
+  pub reached-end : length bs ≤ k → read_each bs told_by length ≡ taken k
+  reached-end h = r.answer ∙ counted-all bs k h

@@ -9,12 +9,9 @@ use Rattle.wire.specs.declared.refusal.Refusal.TheVariants.{UnknownType, Framing
 use Rattle.names.specs.Names.{name_of, user_of}
 use Rattle.text.specs.Text.{blank, text_then_spaces}
 use Rattle.blocks.specs.Blocks.{frames, stated, first, Cut, torn, whole, upstream, end_at}
-use Rattle.blocks.specs.declared.Place.{Place}
-use Rattle.blocks.specs.declared.Place.TheVariants as place
 use Rattle.ufo_up.specs.declared.up.Up.{Up}
 use Rattle.ufo_up.specs.declared.up.Up.TheVariants as up
-use Rattle.ufo_up.specs.declared.up.Upstream.{Upstream}
-use Rattle.ufo_up.specs.declared.up.Upstream.TheVariants as packet
+use Rattle.ufo_up.specs.declared.up.Placed.{Placed}
 
 -- what a client says to the server
 pub data Message : Type 0 where
@@ -144,11 +141,6 @@ read_cut (whole bs) = read_each bs
 unfoldable pub read_up : List ℕ → Verdict (List Message)
 read_up d = checked (opening d) (read_cut (upstream d))
 
--- how many messages
-abbrev pub upstream_of : Verdict (List Message) → Upstream
-upstream_of (refused n) = packet.Refused n
-upstream_of (taken ms) = packet.Messages (length ms)
-
 -- the message whose block stands at p: all of it is there, and it is not empty
 unfoldable pub message_at : List ℕ → ℕ → Verdict Message
 message_at d p =
@@ -170,20 +162,14 @@ abbrev pub is_taken : Verdict (List Message) → Bool
 is_taken (refused n) = false
 is_taken (taken ms) = true
 
--- its fields, and the next place, where its block ends. The data of `U` ends there too
-abbrev pub up_of : ℕ → Verdict Message → Up
-up_of next (refused n) = up.Refused n
-up_of next (taken (login u w s)) = up.Login (user_of u) (record { 0 = name_of w }) (name_of s) next
-up_of next (taken (request n c)) = up.Request (record { 0 = n }) c next
-up_of next (taken (unsequenced b)) = up.Unsequenced (next - length b) (length b) next
-up_of next (taken heartbeat) = up.Heartbeat next
-up_of next (taken logout) = up.Logout next
+-- its fields; the data of `U` ends at the next place, where the message's block does
+abbrev pub up_of : ℕ → Message → Up
+up_of next (login u w s) = up.Login (user_of u) (record { 0 = name_of w }) (name_of s)
+up_of next (request n c) = up.Request (record { 0 = n }) c
+up_of next (unsequenced b) = up.Unsequenced (next - length b) (length b)
+up_of next heartbeat = up.Heartbeat
+up_of next logout = up.Logout
 
--- the next place alone
-abbrev pub next_of : Up → Place
-next_of (up.Refused n) = place.Refused n
-next_of (up.Login u w s next) = place.At next
-next_of (up.Request n c next) = place.At next
-next_of (up.Unsequenced start size next) = place.At next
-next_of (up.Heartbeat next) = place.At next
-next_of (up.Logout next) = place.At next
+-- and the next place
+abbrev pub placed_of : ℕ → Message → Placed
+placed_of next m = record { message = up_of next m; next = next }

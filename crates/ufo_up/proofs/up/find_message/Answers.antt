@@ -2,16 +2,17 @@
 use Prim.Native.Nat.{◌<◌}
 use mathlib.Core.Path.{sym, ◌∙◌}
 use native.Mathlib.Omega.{arith}
+use Rattle.wire.proofs.Checks.{passed-on}
 use Rattle.ufo_up.proofs.UpFinding.{Reaches, reaches-none, reaches_more, reaches-out, reaches-past, reaches_here}
-use Rattle.ufo_up.proofs.up.find_message.Goals.{In-At}
+use Rattle.ufo_up.proofs.up.find_message.Goals.{In_ok-at}
 use Rattle.ufo_up.proofs.up.find_message.Goals as goal
 
 -- a turn that went on
-onward : (c : In-At) → let a = c.args in Reaches a.d.now a.place c.in-At.next
-    × (c.loop-at.at < c.in-At.next)
+onward : (c : In_ok-at) → let a = c.args in Reaches a.d.now a.place c.in_ok-at.field-0.next × (c.loop-at.at < c.in_ok-at.field-0.next)
 onward c =
-    reaches_more c.args.d.now (λ i. (c.type_inv.d i).fits) c.args.place c.loop-at.at c.loop-at.invariant
-    c.loop-at-test.true c.in-At.start c.in-At.length c.in-At.next (sym c.next.ensures ∙ c.in-At.is)
+    let a = c.args in
+    reaches_more a.d.now (λ i. (c.type_inv.d i).fits) a.place c.loop-at.at c.loop-at.invariant c.loop-at-test.true c.in_ok-at.field-0
+    (sym c.next.ensures ∙ c.in_ok-at.was)
 
 pub loop-at-init : goal.loop-at-init
 loop-at-init c = reaches-none c.args.d.now c.args.place c.requires
@@ -22,10 +23,12 @@ loop-at-smaller c = let h = (onward c).1 in omega arith
 pub loop-at-preserved : goal.loop-at-preserved
 loop-at-preserved c = (onward c).0
 
-pub returns-in-Refused : goal.returns-in-Refused
-returns-in-Refused c =
-    rw (reaches-out c.args.d.now (λ i. (c.type_inv.d i).fits) c.args.place c.loop-at.at c.loop-at.invariant c.in-Refused.n
-    (sym c.next.ensures ∙ c.in-Refused.is))
+pub returns-in_err-at : goal.returns-in_err-at
+returns-in_err-at c =
+    let a = c.args in
+    rw (reaches-out a.d.now (λ i. (c.type_inv.d i).fits) a.place c.loop-at.at c.loop-at.invariant c.in_err-at.field-0.0
+    (sym c.next.ensures ∙ c.in_err-at.was))
+    (passed-on c.from_residual.result c.from_residual.ensures.1)
 
 pub returns-then-place-at : goal.returns-then-place-at
 returns-then-place-at c =

@@ -11,15 +11,15 @@ use Rattle.ufo_up.proofs.up.read_l.Goals as goal
 
 pub returns-then-m-ne27 : goal.returns-then-m-ne27
 unfolding read_l
-returns-then-m-ne27 c = search tests
+returns-then-m-ne27 c next = search tests
 
 pub returns-then-not-is_text_then_spaces : goal.returns-then-not-is_text_then_spaces
 unfolding read_l
-returns-then-not-is_text_then_spaces c = rw (failed c.is_text_then_spaces.ensures c.if-not-is_text_then_spaces.true-raw) (search tests)
+returns-then-not-is_text_then_spaces c next = rw (failed c.is_text_then_spaces.ensures c.if-not-is_text_then_spaces.true-raw) (search tests)
 
 pub returns-then-not-is_text_then_spaces-2 : goal.returns-then-not-is_text_then_spaces-2
 unfolding read_l
-returns-then-not-is_text_then_spaces-2 c =
+returns-then-not-is_text_then_spaces-2 c next =
     rw (
       held c.is_text_then_spaces.ensures c.if-not-is_text_then_spaces.false-raw,
       failed c.is_text_then_spaces-2.ensures c.if-not-is_text_then_spaces-2.true-raw,
@@ -27,7 +27,7 @@ returns-then-not-is_text_then_spaces-2 c =
 
 pub returns-then-not-is_text_then_spaces-3 : goal.returns-then-not-is_text_then_spaces-3
 unfolding read_l
-returns-then-not-is_text_then_spaces-3 c =
+returns-then-not-is_text_then_spaces-3 c next =
     rw (
       held c.is_text_then_spaces.ensures c.if-not-is_text_then_spaces.false-raw,
       held c.is_text_then_spaces-2.ensures c.if-not-is_text_then_spaces-2.false-raw,
@@ -49,13 +49,13 @@ padded c = (
 
 pub returns-then-is_blank : goal.returns-then-is_blank
 unfolding read_l
-returns-then-is_blank c =
+returns-then-is_blank c next =
     let p = padded (goal.at.returns-then-is_blank c).Else-not-is_text_then_spaces-3 in
     rw (p.0, p.1, p.2, ← c.is_blank.ensures, c.if-is_blank.true) (search tests)
 
 pub returns : goal.returns
 unfolding read_l
-returns c =
+returns c next =
     let p = padded (goal.at.returns c).Else-not-is_text_then_spaces-3 in
     rw (
       p.0,

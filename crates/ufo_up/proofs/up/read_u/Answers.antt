@@ -1,3 +1,5 @@
+use Prim.Native.Nat.{◌+◌, ◌-◌}
+use mathlib.Core.Path.{◌≡◌}
 use native.Mathlib.Omega.{arith}
 use borrow.Author.Tests.{le-leb}
 use lib.ListN.{length, length-drop}
@@ -11,4 +13,8 @@ returns-then-m c = search tests
 
 pub returns : goal.returns
 unfolding read_u
-returns c = rw (le-leb (length c.args.m.now) 1470 (omega arith), length-drop)
+returns c =
+    let a = c.args in
+    let n = length a.m.now in
+    let begins : a.place + n - (n - 1) ≡ a.place + 1 = omega (arith, c.requires.0) in
+    rw (le-leb n 1470 (omega arith), length-drop, begins)
