@@ -9,14 +9,9 @@ use Rattle.wire.specs.declared.refusal.Refusal.{Refusal}
 use Rattle.wire.specs.declared.refusal.Refusal.TheVariants.{UnknownType}
 use Rattle.wire.proofs.Checks.{not-both, taken-same, refused-same}
 use Rattle.wire.proofs.Tests.{by-test}
-use Rattle.memx.specs.Reading.{kind_of}
+use Rattle.memx.specs.Reading.{byte_of, kind_of}
 use Rattle.memx.specs.declared.layout.Kind.{Kind}
 use Rattle.memx.specs.declared.layout.Kind.TheVariants.{Heartbeat, Shutdown, Messages}
-
-abbrev pub byte_of : Kind → ℕ
-byte_of Heartbeat = 0
-byte_of Shutdown = 1
-byte_of Messages = 2
 
 module _ (n : ℕ) where
   -- the verdict on a byte is one of four

@@ -1,4 +1,4 @@
--- What the code answers: the type that a byte stands for, and a packet as the code's own types tell it.
+-- What the code answers: a type's byte and the type that a byte stands for, and a packet as the code's own types tell it.
 -- Assumes nothing.
 use Rattle.std.specs.Prelude.{ℕ, List, length, if◌then◌else◌}
 use Rattle.wire.specs.Checks.{◌is◌, Verdict, refused, taken}
@@ -9,6 +9,11 @@ use Rattle.memx.specs.declared.layout.Kind.TheVariants as kind
 use Rattle.memx.specs.declared.reading.Memx.{Memx}
 use Rattle.memx.specs.declared.reading.Says.{Says}
 use Rattle.memx.specs.declared.reading.Says.TheVariants.{Heartbeat, Shutdown, Messages}
+
+abbrev pub byte_of : Kind → ℕ
+byte_of kind.Heartbeat = 0
+byte_of kind.Shutdown = 1
+byte_of kind.Messages = 2
 
 abbrev pub kind_of : ℕ → Verdict Kind
 kind_of byte =

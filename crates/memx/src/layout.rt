@@ -1,6 +1,6 @@
 // A packet's layout: its sizes, its places and its types.
 ghost use Rattle.std.specs.Prelude.{◌≡◌};
-ghost use Rattle.memx.specs.Reading.{kind_of};
+ghost use Rattle.memx.specs.Reading.{byte_of, kind_of};
 
 use wire::refusal::Refusal;
 
@@ -25,6 +25,14 @@ pub enum Kind {
     Heartbeat = 0,
     Shutdown = 1,
     Messages = 2,
+}
+
+impl Kind {
+    pub fn byte(self) -> u8
+        ensures { result ≡ byte_of self }
+    {
+        self as u8
+    }
 }
 
 impl TryFrom<u8> for Kind {

@@ -5,21 +5,23 @@ ghost use Rattle.std.specs.Prelude.{◌≡◌, [], ◌+◌, ◌≤◌, length};
 ghost use Rattle.std.proofs.lemmas.List.Edits.{sets};
 ghost use Rattle.wire.specs.Reply.{Settled};
 ghost use Rattle.memx.specs.Packet.{heartbeat, shutdown, header_size, headed, laid};
+ghost use Rattle.memx.specs.Reading.{byte_of};
 ghost use Rattle.memx_write.specs.Writing.{sent, reply};
 
 use memx::layout;
+use memx::layout::Kind;
 use wire::kinds::{Sequence, SessionId};
 use wire::refusal::Refusal;
 use wire::{fields, output};
 
-fn put_header(out: &mut [u8], kind: u8, session: SessionId, number: Sequence, extra: &[u8])
+fn put_header(out: &mut [u8], kind: Kind, session: SessionId, number: Sequence, extra: &[u8])
     requires { (length extra.now ≤ 237) × (header_size + length extra.now ≤ length out.old) }
-    ensures { out.new ≡ sets out.old 0 (headed kind session.0 number.0 extra.now []) }
+    ensures { out.new ≡ sets out.old 0 (headed (byte_of kind) session.0 number.0 extra.now []) }
 {
     let id = session.0;
     let n = number.0;
     let length = extra.len();
-    out[0] = kind;
+    out[0] = kind.byte();
     out[1] = (layout::HEADER + length) as u8;
     fields::put8(out, layout::SESSION, id);
     fields::put8(out, layout::NUMBER, n);
@@ -39,21 +41,21 @@ fn put_messages(
         (laid session.0 first.0 count extra.now blocks.now) }
 {
     let header = layout::HEADER + extra.len();
-    put_header(out, layout::MESSAGES, session, first, extra);
+    put_header(out, Kind::Messages, session, first, extra);
     fields::put2(out, header, count);
     output::copy(out, header + 2, blocks, 0, blocks.len());
 }
 
 // Heartbeat and shutdown differ in their type alone.
 fn write_news(
-    kind: u8,
+    kind: Kind,
     session: SessionId,
     highest: Sequence,
     extra: &[u8],
     out: &mut [u8],
 ) -> Result<usize, Refusal>
-    requires { kind ≤ 1 }
-    ensures { Settled (sent (headed kind session.0 highest.0 extra.now []) (length out.old))
+    requires { byte_of kind ≤ 1 }
+    ensures { Settled (sent (headed (byte_of kind) session.0 highest.0 extra.now []) (length out.old))
         out.old result out.new }
 {
     let header = layout::HEADER + extra.len();
@@ -74,6 +76,7 @@ fn write_news(
 }
 
 // `extra` are the header's bytes past its own fields.
+#[tactic(auto, unfolding(memx::specs::Packet::write))]
 pub fn write_heartbeat(
     session: SessionId,
     highest: Sequence,
@@ -83,9 +86,10 @@ pub fn write_heartbeat(
     ensures { Settled (reply (heartbeat session.0 highest.0 extra.now) (length out.old))
         out.old result out.new }
 {
-    write_news(layout::HEARTBEAT, session, highest, extra, out)
+    write_news(Kind::Heartbeat, session, highest, extra, out)
 }
 
+#[tactic(auto, unfolding(memx::specs::Packet::write))]
 pub fn write_shutdown(
     session: SessionId,
     highest: Sequence,
@@ -95,7 +99,7 @@ pub fn write_shutdown(
     ensures { Settled (reply (shutdown session.0 highest.0 extra.now) (length out.old))
         out.old result out.new }
 {
-    write_news(layout::SHUTDOWN, session, highest, extra, out)
+    write_news(Kind::Shutdown, session, highest, extra, out)
 }
 
 // The messages stand in `blocks` already, each a block.

@@ -7,6 +7,7 @@ use mathlib.Core.List.{List, ◌++◌}
 use native.Mathlib.Omega.{arith}
 use lib.ListN.{length}
 use Rattle.wire.specs.Checks.{taken, Check, checked}
+use Rattle.wire.specs.declared.refusal.Refusal.TheVariants.{Overlong, Framing, Form, Absent, Bound}
 use Rattle.wire.proofs.Tests.{tests}
 use Rattle.wire.proofs.Settling.{refuses, lacks-room, has_room}
 use Rattle.blocks.specs.Blocks.{cut, is_whole, messages_of}
@@ -60,37 +61,37 @@ pub returns-then-place-gt-LIMIT : goal.returns-then-place-gt-LIMIT
 returns-then-place-gt-LIMIT c =
     let a = c.args in
     let size : limit < header_size + length a.extra.now + (2 + length a.blocks.now) = omega arith in
-    refuses _ _ 2 (rw (verdict (goal.at.returns-then-place-gt-LIMIT c).Start) (search tests))
+    refuses _ _ Overlong (rw (verdict (goal.at.returns-then-place-gt-LIMIT c).Start) (search tests))
 
 pub returns-then-place-blocks : goal.returns-then-place-blocks
 returns-then-place-blocks c =
     let a = c.args in
     let size : limit < header_size + length a.extra.now + (2 + length a.blocks.now) = omega arith in
-    refuses _ _ 2 (rw (verdict (goal.at.returns-then-place-blocks c).Start) (search tests))
+    refuses _ _ Overlong (rw (verdict (goal.at.returns-then-place-blocks c).Start) (search tests))
 
 pub returns-then-more-gt-MOST_EXTRA : goal.returns-then-more-gt-MOST_EXTRA
 returns-then-more-gt-MOST_EXTRA c =
     let a = c.args in
     let size : header_size + length a.extra.now + (2 + length a.blocks.now) ≤ limit = omega arith in
     let header : 255 < header_size + length a.extra.now = omega arith in
-    refuses _ _ 5 (rw (verdict (goal.at.returns-then-more-gt-MOST_EXTRA c).Start) (search tests))
+    refuses _ _ Form (rw (verdict (goal.at.returns-then-more-gt-MOST_EXTRA c).Start) (search tests))
 
 pub returns-then-not-exactly : goal.returns-then-not-exactly
 returns-then-not-exactly c =
     let at = goal.at.returns-then-not-exactly c in
-    refuses _ _ 4
+    refuses _ _ Framing
     (rw (headed-well at.Start (omega arith) (omega arith), whole at.After-exactly, c.if-not-exactly.true))
 
 pub returns-then-number-eq0 : goal.returns-then-number-eq0
 returns-then-number-eq0 c =
     let at = goal.at.returns-then-number-eq0 c in
-    refuses _ _ 6
+    refuses _ _ Absent
     (rw (headed-well at.Start (omega arith) (omega arith), whole at.After-exactly, c.if-not-exactly.false) (search tests))
 
 pub returns-then-count-eq0 : goal.returns-then-count-eq0
 returns-then-count-eq0 c =
     let at = goal.at.returns-then-count-eq0 c in
-    refuses _ _ 6
+    refuses _ _ Absent
     (rw (headed-well at.Start (omega arith) (omega arith), whole at.After-exactly, c.if-not-exactly.false) (search tests))
 
 pub returns-then-number-count : goal.returns-then-number-count
@@ -98,7 +99,7 @@ returns-then-number-count c =
     let a = c.args in
     let at = goal.at.returns-then-number-count c in
     let bound : 2 ^ 64 - 1 < a.first.0 + a.count = omega arith in
-    refuses _ _ 7
+    refuses _ _ Bound
     (rw (headed-well at.Start (omega arith) (omega arith), whole at.After-exactly, c.if-not-exactly.false) (search tests))
 
 pub returns-then-out-size : goal.returns-then-out-size

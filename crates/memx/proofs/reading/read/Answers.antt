@@ -5,9 +5,10 @@ use native.Mathlib.Omega.{arith}
 use Rattle.wire.proofs.Checks.{passed-on}
 use Rattle.wire.proofs.Tests.{tests}
 use Rattle.memx.specs.Read.{kind_in, header_in, read}
+use Rattle.memx.specs.Reading.{byte_of}
 use Rattle.memx.specs.declared.layout.Kind.{Kind}
 use Rattle.memx.specs.declared.layout.Kind.TheVariants.{Heartbeat, Shutdown, Messages}
-use Rattle.memx.proofs.Types.{byte_of, stands-for, stands-for-none}
+use Rattle.memx.proofs.Types.{stands-for, stands-for-none}
 use Rattle.memx.proofs.Told.{Headed, heartbeat-told, shutdown-told, messages-told}
 use Rattle.memx.proofs.reading.read.Goals.{In_ok-kind, Else-d}
 use Rattle.memx.proofs.reading.read.Goals.{in-Heartbeat+in_ok-read_news-in-Heartbeat, in-Shutdown+in_ok-read_news-in-Shutdown}
