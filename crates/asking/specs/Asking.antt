@@ -1,7 +1,7 @@
 -- What to ask now.
 -- Assumes nothing.
 use Rattle.std.specs.Prelude.{ℕ, ◌+◌, ◌-◌, min, [], ◌∷◌, Bool, not, ◌||◌, Float, if◌then◌else◌}
-use Rattle.wire.specs.Checks.{◌is◌, Verdict, refused, taken, ◌else◌, checked, ◌into◌}
+use Rattle.wire.specs.Checks.{◌is◌, Verdict, taken, ◌else◌, checked, ◌into◌}
 use Rattle.wire.specs.declared.refusal.Refusal.TheVariants.{Broken}
 use Rattle.clock.specs.Patience.{wait_over}
 use Rattle.clock.specs.declared.sheet.Sheet.{Sheet}
@@ -40,8 +40,8 @@ unfoldable pub asking : Record → Sheet → Patience → Float → Verdict Wish
 asking r s p elapsed =
     checked ((hangs r else Broken) ∷ []) (wait_over s p elapsed into λ late. taken (wish r late))
 
-abbrev pub asked_of : Verdict Wish → Asked
-asked_of (refused n) = asks.Refused n
-asked_of (taken nothing) = asks.Nothing
-asked_of (taken wait) = asks.Wait
-asked_of (taken (request first count after)) = asks.Request (record { 0 = first }) count after
+-- as the code tells it
+abbrev pub asked_of : Wish → Asked
+asked_of nothing = asks.Nothing
+asked_of wait = asks.Wait
+asked_of (request first count after) = asks.Request (record { 0 = first }) count after

@@ -2,10 +2,9 @@
 #![tactic(auto)]
 
 ghost use Rattle.std.specs.Prelude.{◌≡◌, ◌≤◌};
-ghost use Rattle.wire.specs.Checks.{taken};
+ghost use Rattle.wire.specs.Checks.{◌told_by◌};
 ghost use Rattle.asking.specs.Asking.{request_of, wish, asking, asked_of};
 
-use clock::answer::Said;
 use clock::patience;
 use clock::patience::Patience;
 use clock::sheet::Sheet;
@@ -15,11 +14,10 @@ use wire::kinds::Sequence;
 use wire::refusal::Refusal;
 
 // The most messages that a request can name: its count has two bytes.
-const MOST: u16 = 65535;
+const MOST: u64 = 65535;
 
 #[derive(Clone, Copy)]
 pub enum Asked {
-    Refused(Refusal),
     // Nothing is missing.
     Nothing,
     // It was asked for, and the wait is not over.
@@ -33,57 +31,38 @@ pub enum Asked {
 
 fn request(kept: Record) -> Asked
     requires { kept.next.0 ≤ kept.top.0 }
-    ensures { result ≡ asked_of (taken (request_of kept)) }
+    ensures { result ≡ asked_of (request_of kept) }
 {
-    let next = kept.next;
-    let top = kept.top;
-    let mut after = kept;
-    after.asked = next;
-    let range = missing::at(kept.held, next.0, top.0, 0);
-    let first = range.first;
-    let last = range.last;
-    let others = last.0 - first.0;
-    if others < MOST as u64 {
-        let count = (others + 1) as u16;
-        Asked::Request {
-            first,
-            count,
-            after,
-        }
-    } else {
-        Asked::Request {
-            first,
-            count: MOST,
-            after,
-        }
+    let range = missing::at(kept.held, kept.next.0, kept.top.0, 0).unwrap();
+    let others = range.last.0 - range.first.0;
+    Asked::Request {
+        first: range.first,
+        count: others.saturating_add(1).min(MOST) as u16,
+        after: Record {
+            asked: kept.next,
+            ..kept
+        },
     }
 }
 
 fn wish(kept: Record, late: bool) -> Asked
-    ensures { result ≡ asked_of (taken (wish kept late)) }
+    ensures { result ≡ asked_of (wish kept late) }
 {
-    let next = kept.next;
-    let top = kept.top;
-    let asked = kept.asked;
-    if top.0 < next.0 {
+    if kept.top < kept.next {
         return Asked::Nothing;
     }
-    if asked.0 != next.0 {
-        return request(kept);
+    if kept.asked == kept.next && !late {
+        return Asked::Wait;
     }
-    if late { request(kept) } else { Asked::Wait }
+    request(kept)
 }
 
-pub fn ask(kept: Record, sheet: Sheet, rule: Patience, elapsed: f64) -> Asked
-    ensures { result ≡ asked_of (asking kept sheet rule elapsed) }
+pub fn ask(kept: Record, sheet: Sheet, rule: Patience, elapsed: f64) -> Result<Asked, Refusal>
+    ensures { result ≡ asking kept sheet rule elapsed told_by asked_of }
 {
     if !hangs_together(kept) {
-        return Asked::Refused(Refusal::Broken);
+        return Err(Refusal::Broken);
     }
-    let said = patience::wait_over(sheet, rule, elapsed);
-    match said {
-        Said::Refused(number) => Asked::Refused(number),
-        Said::Yes => wish(kept, true),
-        Said::No => wish(kept, false),
-    }
+    let late = patience::wait_over(sheet, rule, elapsed)?;
+    Ok(wish(kept, late))
 }

@@ -1,48 +1,26 @@
 -- `ask` meets its contract: the record's 10, then the clock's word; and what follows from that is what is wished.
-use mathlib.Core.Path.{◌≡◌, refl}
-use mathlib.Core.Bool.{Bool, true, false}
-use Rattle.wire.specs.Checks.{Verdict, refused, taken, ◌into◌}
-use Rattle.clock.specs.Answer.{said_of}
-use Rattle.clock.specs.declared.answer.Said.{Said}
-use Rattle.clock.specs.declared.answer.Said.TheVariants as said
-use Rattle.wire.proofs.Tests.{held, failed}
+use mathlib.Core.Path.{◌≡◌, sym, ◌∙◌}
+use mathlib.Core.Bool.{Bool}
+use Rattle.wire.specs.Checks.{Verdict, refused, taken, ◌into◌, ◌told_by◌}
+use Rattle.wire.proofs.Checks.{passed-on}
 use Rattle.asking.specs.Asking.{wish, asking, asked_of}
-use Rattle.record.specs.declared.Record.{Record}
-use Rattle.asking.specs.declared.Asked.{Asked}
-use Rattle.asking.specs.declared.Asked.TheVariants as asks
-use Rattle.asking.proofs.ask.Goals.{After-wait_over-said}
+use Rattle.asking.proofs.ask.Goals.{After-wait_over}
 use Rattle.asking.proofs.ask.Goals as goal
 
 -- what follows from the clock's word
-abbrev told : Record → Said → Asked
-told r (said.Refused n) = asks.Refused n
-told r said.Yes = asked_of (taken (wish r true))
-told r said.No = asked_of (taken (wish r false))
-
-by_said : (r : Record) (v : Verdict Bool) → asked_of (v into λ late. taken (wish r late)) ≡ told r (said_of v)
-by_said r (refused n) = refl
-by_said r (taken true) = refl
-by_said r (taken false) = refl
-
-goes_on : (c : After-wait_over-said) → let a = c.args in
-    asked_of (asking a.kept a.sheet a.rule a.elapsed) ≡ told a.kept c.wait_over-said.result
+goes_on : (c : After-wait_over) (v : Verdict Bool) → c.wait_over.result ≡ v → let a = c.args in
+    asking a.kept a.sheet a.rule a.elapsed told_by asked_of ≡ ((v into λ late. taken (wish a.kept late)) told_by asked_of)
 unfolding asking
-goes_on c =
-    rw (
-      held c.hangs_together.ensures c.if-not-hangs_together.false-raw,
-      by_said c.args.kept,
-      ← c.wait_over-said.ensures,
-    )
+goes_on c v e = rw (← c.hangs_together.ensures, c.if-not-hangs_together.false, ← c.wait_over.ensures, e)
 
 pub returns-then-not-hangs_together : goal.returns-then-not-hangs_together
 unfolding asking
-returns-then-not-hangs_together c = rw (failed c.hangs_together.ensures c.if-not-hangs_together.true-raw)
+returns-then-not-hangs_together c = rw (← c.hangs_together.ensures, c.if-not-hangs_together.true)
 
-pub returns-in-Refused : goal.returns-in-Refused
-returns-in-Refused c = rw (goes_on (goal.at.returns-in-Refused c).After-wait_over-said, c.in-Refused.is)
+pub returns-in_err-late : goal.returns-in_err-late
+returns-in_err-late c =
+    passed-on c.from_residual.result c.from_residual.ensures.1
+    ∙ sym (goes_on (goal.at.returns-in_err-late c).After-wait_over (refused c.in_err-late.field-0.0) c.in_err-late.was)
 
-pub returns-in-Yes : goal.returns-in-Yes
-returns-in-Yes c = rw (goes_on (goal.at.returns-in-Yes c).After-wait_over-said, c.in-Yes.is) c.wish.ensures
-
-pub returns-in-No : goal.returns-in-No
-returns-in-No c = rw (goes_on (goal.at.returns-in-No c).After-wait_over-said, c.in-No.is) c.wish-in-No.ensures
+pub returns : goal.returns
+returns c = rw c.wish.ensures (sym (goes_on (goal.at.returns c).After-wait_over (taken c.in_ok-late.late) c.in_ok-late.was))

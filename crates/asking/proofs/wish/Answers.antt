@@ -1,24 +1,16 @@
-use borrow.Author.Tests.{le-leb, eq-eqb, ne_eqb}
-use Rattle.wire.proofs.Tests.{tests}
+use Rattle.std.proofs.Common.{rules}
 use Rattle.asking.specs.Asking.{wish}
+use Rattle.asking.proofs.wish.Goals.{else-eq-via-then-eq+else-not-late, else-eq-via-else-eq}
 use Rattle.asking.proofs.wish.Goals as goal
 
-pub returns-then-top-next : goal.returns-then-top-next
+pub returns-then-lt : goal.returns-then-lt
 unfolding wish
-returns-then-top-next c = search tests
+returns-then-lt c = search rules
 
-pub returns-then-asked-next : goal.returns-then-asked-next
+pub returns-then-not-late : goal.returns-then-not-late
 unfolding wish
-returns-then-asked-next c = rw (le-leb _ _ c.if-top-next.false, ne_eqb _ _ c.if-asked-next.true) c.request.ensures
+returns-then-not-late c = search rules
 
-pub returns-then-late : goal.returns-then-late
+pub returns : goal.returns
 unfolding wish
-returns-then-late c = rw (
-  le-leb _ _ c.if-top-next.false,
-  eq-eqb _ _ c.if-asked-next.false,
-  c.if-late.true,
-) c.request-then-late.ensures
-
-pub returns-else-late : goal.returns-else-late
-unfolding wish
-returns-else-late c = rw (le-leb _ _ c.if-top-next.false, eq-eqb _ _ c.if-asked-next.false, c.if-late.false)
+returns c = rw c.request.ensures (elim c.else-eq.branch [ else-eq-via-then-eq+else-not-late w ↦ search rules | else-eq-via-else-eq w ↦ search rules ])
