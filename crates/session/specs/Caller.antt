@@ -2,7 +2,7 @@
 -- it is the step, or how the record stands, whatever outcome the entry's contract allows. The contract is taken as it is generated from the
 -- source.
 -- Assumes nothing.
-use Rattle.std.specs.Prelude.{ℕ, zero, suc, ◌≡◌, List, [], ◌∷◌, ◌++◌, Float, length, take}
+use Rattle.std.specs.Prelude.{ℕ, zero, suc, ◌≡◌, List, [], ◌∷◌, ◌++◌, Float, length, take, Option, Some, None}
 use borrow.Fn.Kinds.{ParamKind, ResultKind, Out, Dens, res_t, ended_of}
 use contract.Lifetimes.{Lfts}
 use denote.Triple.Clauses.{AtExit}
@@ -13,25 +13,17 @@ use Rattle.wire.specs.declared.kinds.Sequence.{Sequence}
 use Rattle.blocks.specs.Blocks.{cut, messages_of}
 use Rattle.ufo_up.specs.declared.up.Up.{Up}
 use Rattle.ufo_up.specs.declared.up.Up.TheVariants as up
-use Rattle.ufo_up.specs.declared.up.Upstream.{Upstream}
-use Rattle.ufo_up.specs.declared.up.Upstream.TheVariants as packet
 use Rattle.clock.specs.declared.sheet.Sheet.{Sheet}
 use Rattle.clock.specs.declared.patience.Patience.{Patience}
-use Rattle.lent_log.specs.declared.Logged.{Logged}
-use Rattle.lent_log.specs.declared.Logged.TheVariants as logged
+use Rattle.lent_log.specs.declared.Log.{Log}
 use Rattle.missing.specs.Missing.{◌to◌, ◌at◌}
 use Rattle.missing.specs.declared.Range.{Range}
 use Rattle.record.specs.Record.{opening}
 use Rattle.record.specs.Standing as standings
 use Rattle.record.specs.declared.Record.{Record}
-use Rattle.record.specs.declared.open.Opened.{Opened}
-use Rattle.record.specs.declared.open.Opened.TheVariants as opened
 use Rattle.record.specs.declared.standing.Standing.{Standing}
 use Rattle.record.specs.declared.standing.Standing.TheVariants as stands
-use Rattle.record.specs.declared.standing.MissingRange.{MissingRange}
-use Rattle.record.specs.declared.standing.MissingRange.TheVariants as gives
 use Rattle.taking.specs.declared.Taken.{Taken}
-use Rattle.taking.specs.declared.Taken.TheVariants as took
 use Rattle.asking.specs.declared.Asked.{Asked}
 use Rattle.asking.specs.declared.Asked.TheVariants as asked
 use Rattle.lent_log.proofs as log
@@ -56,24 +48,24 @@ Leaves {n} ps r ensures given left =
     (κs : Lfts n) (a : Dens κs ps) (x : (res_t r κs).Denot) (e : AtExit (ended_of n ps r) κs) → given κs a → ensures κs a x e → left κs x e
 
 -- the log, and the bytes lent to it as they are now
-abbrev pub with_log : State → Logged → List ℕ → State
-with_log s (logged.Refused n) left =
+abbrev pub with_log : State → Verdict Log → List ℕ → State
+with_log s (refused why) left =
     record { log = s.log; lent = left; kept = s.kept; area = s.area; deliveries = s.deliveries; down = s.down; up = s.up }
-with_log s (logged.After log) left =
+with_log s (taken log) left =
     record { log = log; lent = left; kept = s.kept; area = s.area; deliveries = s.deliveries; down = s.down; up = s.up }
 
 -- the datagram at the output's start
 abbrev pub written : Verdict ℕ → List ℕ → List (List ℕ)
-written (refused n) left = []
+written (refused why) left = []
 written (taken n) left = take n left ∷ []
 
 -- as many messages as the answer says, in as many bytes from the output's start
-abbrev pub handed : Taken → List ℕ → List (List ℕ)
-handed (took.Refused n) left = []
-handed (took.Took bytes messages after) left = messages_of (cut messages (take bytes left))
+abbrev pub handed : Verdict Taken → List ℕ → List (List ℕ)
+handed (refused why) left = []
+handed (taken t) left = messages_of (cut t.messages (take t.bytes left))
 
 -- these are delivered, and the record is kept, and the area as it was left
-abbrev pub with_taken : State → Taken → List ℕ → List ℕ → Record → State
+abbrev pub with_taken : State → Verdict Taken → List ℕ → List ℕ → Record → State
 with_taken s r area left kept =
     record {
       log = s.log;
@@ -86,22 +78,22 @@ with_taken s r area left kept =
     }
 
 -- which record is kept: the one in the answer, if there is one
-abbrev pub once_taken : Record → Taken → Record
-once_taken kept (took.Refused n) = kept
-once_taken kept (took.Took bytes messages after) = after
+abbrev pub once_taken : Record → Verdict Taken → Record
+once_taken kept (refused why) = kept
+once_taken kept (taken t) = t.after
 
-abbrev pub once_asked : Record → Asked → Record
-once_asked kept (asked.Refused n) = kept
-once_asked kept asked.Nothing = kept
-once_asked kept asked.Wait = kept
-once_asked kept (asked.Request first count after) = after
+abbrev pub once_asked : Record → Verdict Asked → Record
+once_asked kept (refused why) = kept
+once_asked kept (taken asked.Nothing) = kept
+once_asked kept (taken asked.Wait) = kept
+once_asked kept (taken (asked.Request first count after)) = after
 
 -- Here what is left depends on what goes out. A request that is to be made is written, and what was written goes out.
-abbrev pub LeavesAsked : ℕ → Asked → (List (List ℕ) → Type 0) → Type 0
-LeavesAsked room (asked.Refused n) left = left []
-LeavesAsked room asked.Nothing left = left []
-LeavesAsked room asked.Wait left = left []
-LeavesAsked room (asked.Request first count after) left =
+abbrev pub LeavesAsked : ℕ → Verdict Asked → (List (List ℕ) → Type 0) → Type 0
+LeavesAsked room (refused why) left = left []
+LeavesAsked room (taken asked.Nothing) left = left []
+LeavesAsked room (taken asked.Wait) left = left []
+LeavesAsked room (taken (asked.Request first count after)) left =
     Leaves ufo-up-write.write_request.Kinds.ps ufo-up-write.write_request.Kinds.r ufo-up-write.write_request.Reads.Post
     (λ _ (first', (count', (out, _))). (first' ≡ first) × (count' ≡ count) × (length out.now ≡ room))
     (λ _ x (_, (_, (out, _))). left (written x out.now))
@@ -132,25 +124,21 @@ LeavesEach s room datagram (suc count) place left =
     (λ _ (packet, (place', _)). (packet.now ≡ datagram) × (place' ≡ place))
     (λ _ x _. LeavesMessage s room x (LeavesEach s room datagram count) left)
 
-abbrev pub LeavesServed : State → ℕ → List ℕ → Upstream → (List (List ℕ) → Type 0) → Type 0
-LeavesServed s room datagram (packet.Refused n) left = left []
-LeavesServed s room datagram (packet.Messages count) left = LeavesEach s room datagram count 0 left
-
--- what a program opens: a record, or the number of the refusal
-abbrev pub opened_as : Opened → Verdict Record
-opened_as (opened.Refused n) = refused n
-opened_as (opened.Record kept) = taken kept
+abbrev pub LeavesServed : State → ℕ → List ℕ → Verdict ℕ → (List (List ℕ) → Type 0) → Type 0
+LeavesServed s room datagram (refused why) left = left []
+LeavesServed s room datagram (taken count) left = LeavesEach s room datagram count 0 left
 
 abbrev pub LeavesOpened : Name → (Verdict Record → Type 0) → Type 0
 LeavesOpened session left =
     Leaves recording.open.open_ufo.Kinds.ps recording.open.open_ufo.Kinds.r recording.open.open_ufo.Reads.Post
     (λ _ (name, _). name ≡ session)
-    (λ _ x _. left (opened_as x))
+    (λ _ x _. left x)
 
--- A program that is told that so many ranges are missing asks for each, by its place; to that it is not refused.
-abbrev pub LeavesRange : MissingRange → (Range → Type 0) → Type 0
-LeavesRange (gives.Refused n) left = ⊥
-LeavesRange (gives.Range range) left = left range
+-- A program that is told that so many ranges are missing asks for each, by its place; that is not refused, and there is one.
+abbrev pub LeavesRange : Verdict (Option Range) → (Range → Type 0) → Type 0
+LeavesRange (refused why) left = ⊥
+LeavesRange (taken None) left = ⊥
+LeavesRange (taken (Some range)) left = left range
 
 abbrev pub LeavesRanges : Record → (count place : ℕ) → (List Range → Type 0) → Type 0
 LeavesRanges kept zero place left = left []
@@ -160,11 +148,11 @@ LeavesRanges kept (suc count) place left =
     (λ _ x _. LeavesRange x (λ range. LeavesRanges kept count (suc place) (λ others. left (range ∷ others))))
 
 -- So it is told how the record stands: complete; ongoing; or these ranges are missing, of which the answer itself has the first.
-abbrev pub LeavesTold : Record → Standing → (Verdict standings.State → Type 0) → Type 0
-LeavesTold kept (stands.Refused n) left = left (refused n)
-LeavesTold kept stands.Complete left = left (taken standings.complete)
-LeavesTold kept stands.Ongoing left = left (taken standings.ongoing)
-LeavesTold kept (stands.Missing count first last) left =
+abbrev pub LeavesTold : Record → Verdict Standing → (Verdict standings.State → Type 0) → Type 0
+LeavesTold kept (refused why) left = left (refused why)
+LeavesTold kept (taken stands.Complete) left = left (taken standings.complete)
+LeavesTold kept (taken stands.Ongoing) left = left (taken standings.ongoing)
+LeavesTold kept (taken (stands.Missing count first last)) left =
     LeavesRanges kept count 0 (λ ranges. (ranges at 0 ≡ (first.0 to last.0)) × left (taken (standings.missing ranges)))
 
 abbrev pub LeavesStanding : Record → (Verdict standings.State → Type 0) → Type 0
