@@ -16,7 +16,7 @@ use Rattle.ufo_up.specs.declared.up.Up.TheVariants as up
 use Rattle.clock.specs.declared.sheet.Sheet.{Sheet}
 use Rattle.clock.specs.declared.patience.Patience.{Patience}
 use Rattle.lent_log.specs.declared.Log.{Log}
-use Rattle.missing.specs.Missing.{◌to◌, ◌at◌}
+use Rattle.missing.specs.Missing.{◌at◌}
 use Rattle.missing.specs.declared.Range.{Range}
 use Rattle.record.specs.Record.{opening}
 use Rattle.record.specs.Standing as standings
@@ -152,8 +152,8 @@ abbrev pub LeavesTold : Record → Verdict Standing → (Verdict standings.State
 LeavesTold kept (refused why) left = left (refused why)
 LeavesTold kept (taken stands.Complete) left = left (taken standings.complete)
 LeavesTold kept (taken stands.Ongoing) left = left (taken standings.ongoing)
-LeavesTold kept (taken (stands.Missing count first last)) left =
-    LeavesRanges kept count 0 (λ ranges. (ranges at 0 ≡ (first.0 to last.0)) × left (taken (standings.missing ranges)))
+LeavesTold kept (taken (stands.Missing count first)) left =
+    LeavesRanges kept count 0 (λ ranges. (ranges at 0 ≡ first) × left (taken (standings.missing ranges)))
 
 abbrev pub LeavesStanding : Record → (Verdict standings.State → Type 0) → Type 0
 LeavesStanding kept left =
