@@ -26,7 +26,7 @@ use Rattle.flat_record.specs.declared.keeping.FlatRecord.{FlatRecord}
 use Rattle.flat_record.specs.declared.requesting.FlatAsked.{FlatAsked}
 use Rattle.flat_record.proofs.FlatAndBack.{asked-again}
 use Rattle.flat_session.specs.Face.{Held, Holds, saying, LeavesRequested, LeavesAsked}
-use Rattle.flat_session.proofs.NeverNought.{datagram-left, numbered-request}
+use Rattle.flat_session.proofs.NeverNought.{datagram-left}
 
 -- the fields of a request, which has no body
 request-flat : (f : Packet) (room first count : ℕ) → f.kind ≡ 84 → f.number ≡ first → f.count ≡ count
@@ -53,11 +53,11 @@ module _ (h : Held) (s : State) (i : Holds h s) where
 
   requested : (sheet : Sheet) (rule : Patience) (elapsed : Float) (room : ℕ) (left : Held → Type 0)
       → ((g : Held) → Holds g (step s (asks sheet rule elapsed room)) → left g)
-      → let x = flat_asked h.kept (asked_of (asking s.kept sheet rule elapsed)) in
+      → let x = flat_asked h.kept (asking s.kept sheet rule elapsed told_by asked_of) in
       LeavesRequested room x (λ said. left (saying h x.after said))
   requested sheet rule elapsed room left k = by (asking s.kept sheet rule elapsed) refl k where
     by : (v : Verdict Wish) → asking s.kept sheet rule elapsed ≡ v → ((g : Held) → Holds g (wishing s room v) → left g)
-        → let x = flat_asked h.kept (asked_of v) in LeavesRequested room x (λ said. left (saying h x.after said))
+        → let x = flat_asked h.kept (v told_by asked_of) in LeavesRequested room x (λ said. left (saying h x.after said))
     by (refused n) q k = k _ nothing_said
     by (taken nothing) q k = k _ nothing_said
     by (taken wait) q k = k _ nothing_said
@@ -66,16 +66,16 @@ module _ (h : Held) (s : State) (i : Holds h s) where
         let low : count < 2 ^ 16 = omega arith in
         let kept = asked-again h.kept s.kept sheet rule elapsed after first count i.kept q in
         λ f kind number counts κs a y e g p.
-        k _ (said-left _ after kept _ _ (datagram-left _ _ y _ (numbered-request first count room low)
+        k _ (said-left _ after kept _ _ (datagram-left _ _ y _
         (rw (g.0, g.1, g.2, request-flat f room first count kind number (counts ∙ mod-eq_of_lt low)) at p)))
 
   pub ask-left : (timed : FlatSheet) (patience : FlatPatience) (sheet : Sheet) → known_sheet timed ≡ taken sheet
       → (elapsed : Float) (room : ℕ) (left : FlatAsked → Held → Type 0)
       → ((x : FlatAsked) (g : Held)
-      → x ≡ flat_asked h.kept (asked_of (asking s.kept sheet (rule_of patience) elapsed))
+      → x ≡ flat_asked h.kept (asking s.kept sheet (rule_of patience) elapsed told_by asked_of)
       → Holds g (step s (asks sheet (rule_of patience) elapsed room)) → left x g)
       → LeavesAsked h timed patience elapsed room left
   ask-left timed patience sheet known elapsed room left k κs a x e g p =
-      let answer : x ≡ flat_asked h.kept (asked_of (asking s.kept sheet (rule_of patience) elapsed)) =
+      let answer : x ≡ flat_asked h.kept (asking s.kept sheet (rule_of patience) elapsed told_by asked_of) =
       rw (g.0, g.1, g.2, g.3, i.kept, known) at p in
       rw answer (requested sheet (rule_of patience) elapsed room (left _) (λ f. k _ f refl))

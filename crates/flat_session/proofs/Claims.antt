@@ -69,7 +69,7 @@ never-refused = always NeverRefused (λ h s r i d room m e.
       by : (h : Held) (s : State) (d : List ℕ) (room : ℕ) (x : FlatTaken) (g : Held) → TakenAs h (taking s.kept s.area d room) x g
           → session.Received s d room → Received h d x g
       by h s d room x g told (session.took t q) = took (rw (told.answer, q))
-      by h s d room x g told (session.passed l q _) = passed (login-read d l) (rw (told.answer, q)) (told.same 16 q)
+      by h s d room x g told (session.passed l q _) = passed (login-read d l) (rw (told.answer, q)) (told.same NotForRecord q)
 
 -- 3. Once End of Session has been taken, the log has ended with that total, and the record stands as complete, with the whole log, or
 -- names exactly what it lacks.
@@ -77,7 +77,7 @@ pub at-the-end : Always AtTheEnd
 at-the-end = always AtTheEnd (λ h s r i d room m.
     let there : d among s.down = rw i.down at m in
     take_left r h i d there room (OnceEnded d) (λ x g told j z.
-    let t = never-nought.took r d room h.kept x told.answer z in
+    let t = never-nought.took (taking _ _ d room) h.kept x told.answer z in
     λ κs a y e c p k n.
     steps-left stop (on r (takes d room) there) g j n _ (λ f u run q l.
     let end = claims.at-the-end r d room y.packet.number t.0 there t.1 (end_read d κs a y e c p k) run in

@@ -17,7 +17,7 @@ use Rattle.flat_log.specs.Lending.{flat_logged, FlatEntered}
 use Rattle.flat_log.specs.declared.FlatLogged.{FlatLogged}
 use Rattle.flat_log.proofs.FlatAndBack.{log-again}
 use Rattle.flat_session.specs.Face.{Held, Holds, with_log, sending, LeavesStep, LeavesSteps}
-use Rattle.flat_session.proofs.NeverNought.{datagram-left, numbered-heartbeat, numbered-end, numbered-accept, numbered-reject}
+use Rattle.flat_session.proofs.NeverNought.{datagram-left}
 use Rattle.flat_session.proofs.Serving.{answer-left, packet-left}
 use Rattle.flat_session.proofs.Taking.{take_left}
 use Rattle.flat_session.proofs.Asking.{said-left, ask-left}
@@ -85,19 +85,19 @@ step_left {s} r h i (adds_many blocks) left k = λ b κs a x e g p. k _ b (log-l
 step_left {s} r h i declares left k = λ κs a x e g p. k _ tt (end-left h s i x (rw (g.0, g.1, i.log, i.lent) at p))
 step_left {s} r h i (beats room) left k =
     λ κs a x e g p. k _ tt (sent-left h s i _ _
-    (datagram-left _ _ x _ (numbered-heartbeat s.log s.lent room) (rw (g.0, g.1, g.2, i.log, i.lent) at p)))
+    (datagram-left _ _ x _ (rw (g.0, g.1, g.2, i.log, i.lent) at p)))
 step_left {s} r h i (ends room) left k =
     λ κs a x e g p. k _ tt (sent-left h s i _ _
-    (datagram-left _ _ x _ (numbered-end s.log s.lent room) (rw (g.0, g.1, g.2, i.log, i.lent) at p)))
+    (datagram-left _ _ x _ (rw (g.0, g.1, g.2, i.log, i.lent) at p)))
 step_left {s} r h i (answers first count room) left k = answer-left h s i room first count (λ answer. left (sending h answer))
     (k _ tt (sent-left h s i _ _ refl))
 step_left {s} r h i (accepts session next room) left k =
     λ f kind name number κs a x e g p. k _ tt (sent-left h s i _ _
-    (datagram-left _ _ x _ (numbered-accept session next room)
+    (datagram-left _ _ x _
     (rw (g.0, g.1, g.2, accept-flat f room (name_bytes session) next kind name number) at p)))
 step_left {s} r h i (rejects reason room) left k =
     λ f kind why κs a x e g p. k _ tt (sent-left h s i _ _
-    (datagram-left _ _ x _ (numbered-reject reason room) (rw (g.0, g.1, g.2, reject-flat f room reason kind why) at p)))
+    (datagram-left _ _ x _ (rw (g.0, g.1, g.2, reject-flat f room reason kind why) at p)))
 step_left {s} r h i (serves datagram room) left k =
     λ b m κs a x e g p. rw (p, g) (packet-left h s i room datagram b (λ answers. left (sending h answers))
     (k _ (rw i.up at m) (sent-left h s i _ _ refl)))

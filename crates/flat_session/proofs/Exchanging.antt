@@ -22,7 +22,7 @@ use Rattle.flat_record.specs.declared.keeping.FlatRecord.{FlatRecord}
 use Rattle.flat_record.specs.declared.requesting.FlatAsked.{FlatAsked}
 use Rattle.flat_session.specs.Face.{Held, Holds, LeavesAsked, LeavesSteps}
 use Rattle.flat_session.specs.Promise.{LeavesFetched, LeavesServed, LeavesExchanged, LeavesAll}
-use Rattle.flat_session.proofs.NeverNought.{laid-down, numbered-answer, took}
+use Rattle.flat_session.proofs.NeverNought.{laid-down, took}
 use Rattle.flat_session.proofs.Taking.{take_left}
 use Rattle.flat_session.proofs.Asking.{ask-left}
 use Rattle.flat_session.proofs.EachStep.{on, steps-left}
@@ -53,7 +53,7 @@ module _ {s : State} (r : Reached s) (left : ℕ → Held → Type 0)
         let there : d among w.down = rw i.down at m in
         take_left q h i d there room (λ x g. x.refusal ≡ 0 → left first g)
         (λ x g told j z.
-        let t = took q d room h.kept x told.answer z in
+        let t = took (taking w.kept w.area d room) h.kept x told.answer z in
         k g (step w (takes d room))
         (record {
           first = first;
@@ -80,7 +80,7 @@ module _ {s : State} (r : Reached s) (left : ℕ → Held → Type 0)
       → Holds h u → LeavesServed h first count (left first)
   served first count due room_up h u run q i room κs a x e g p z m =
       let n = narrow r first count due in
-      let laid = laid-down _ _ x _ (numbered-answer u.log u.lent room first count)
+      let laid = laid-down _ _ x _
       (rw (g.0, g.1, g.2, g.3, g.4, mod-eq_of_lt n.0, mod-eq_of_lt n.1, i.log, i.lent) at p) z in
       steps-left stop q h i m _ (λ f w later v j. arrived first count due room_up u run _ room laid f w later v j)
 

@@ -3,7 +3,6 @@
 use Prim.Native.Nat.{ℕ, ◌≤◌}
 use mathlib.Core.Path.{◌≡◌, refl}
 use mathlib.Core.List.{List}
-use mathlib.Core.Bool.{false, true≢false}
 use lib.ListN.{length}
 use Rattle.wire.specs.Fields.{Bytes}
 use Rattle.wire.specs.Checks.{◌is◌, Verdict, refused, taken}
@@ -15,7 +14,7 @@ use Rattle.session.specs.Session.{State, begin as starts, stop, Reached}
 use Rattle.flat_record.proofs.FlatAndBack.{opened-ufo-again}
 use Rattle.flat_session.specs.Header.{hp-open-ufo}
 use Rattle.flat_session.specs.Face.{Held, Holds, begin, LeavesOpened, Opens}
-use Rattle.flat_session.proofs.NeverNought.{numbered-opening}
+use Rattle.flat_session.proofs.NeverNought.{never-nought}
 
 pub opens : (name : List ℕ) → hp-open-ufo name (λ x. Opens x (opening (name_of name)))
 opens name κs a x e g p = by (opening (name_of name)) refl where
@@ -27,10 +26,7 @@ pub opened-left : (name lent area : List ℕ) → Bytes lent → area_size ≤ l
     → ((h : Held) (s : State) → Reached s → Holds h s → left h) → LeavesOpened name lent area left
 opened-left name lent area b l left k κs a x e g p z = by (opening (name_of name)) refl (opens name κs a x e g p) where
   by : (v : Verdict Record) → opening (name_of name) ≡ v → Opens x v → left (begin lent area x.opened)
-  by (refused n) q o =
-      let zero : n ≡ 0 = rw o at z in
-      let more : (n is 0) ≡ false = rw q at (numbered-opening (name_of name)) in
-      absurd (true≢false (rw zero at more))
+  by (refused why) q o =      never-nought why (rw o at z)
   by (taken kept) q o =
       k _ (starts lent area kept) (record {
         lent = lent;

@@ -14,14 +14,14 @@ use Rattle.ufo_up.proofs.UpInTurn.{InTurn, in-turn}
 use Rattle.session.specs.Session.{State, to_message, to_each, to_packet}
 use Rattle.flat_ufo_up.specs.Reading.{flat_up, flat_upstream, up_read}
 use Rattle.flat_session.specs.Face.{Held, Holds, LeavesAnswered, LeavesMessage, LeavesEach}
-use Rattle.flat_session.proofs.NeverNought.{datagram-left, numbered-answer}
+use Rattle.flat_session.proofs.NeverNought.{datagram-left}
 
 module _ (h : Held) (s : State) (i : Holds h s) where
   -- to a request, to each message, and so to the whole packet
   pub answer-left : (room first count : ℕ) (left : List (List ℕ) → Type 0) → left (to_message s room (request first count))
       → LeavesAnswered h room first count left
   answer-left room first count left l κs a x e g p =
-      rw (datagram-left _ _ x _ (numbered-answer s.log s.lent room first count)
+      rw (datagram-left _ _ x _
       (rw (g.0, g.1, g.2, g.3, g.4, i.log, i.lent) at p))
       l
 
@@ -50,6 +50,6 @@ module _ (h : Held) (s : State) (i : Holds h s) where
   unfolding to_packet
   packet-left room d b left l = by (read_up d) refl l where
     by : (v : Verdict (List Message)) → read_up d ≡ v → left (to_packet s room v)
-        → LeavesEach h room d (flat_upstream (upstream_of v)).packet.count 0 left
+        → LeavesEach h room d (flat_upstream (v told_by upstream_of)).packet.count 0 left
     by (refused n) e l = l
     by (taken ms) e l = each_left room d ms 0 left (in-turn d b ms e) (read-is-written d b ms e).0.all l

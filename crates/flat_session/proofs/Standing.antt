@@ -46,7 +46,7 @@ names-so (r ∷ rs) zero n l a b = inl (a, b)
 names-so (r ∷ rs) (suc k) n l a b = inr (names-so rs k n (omega arith) a b)
 
 -- ranges of which the first is told
-pub lacking : (v : Verdict Standing) (x : FlatStanding) → x ≡ flat_standing (standing_of v) → 1 ≤ x.missing
+pub lacking : (v : Verdict Standing) (x : FlatStanding) → x ≡ flat_standing (v told_by standing_of) → 1 ≤ x.missing
     → (others : List Range) × (v ≡ taken (missing ((x.first to x.last) ∷ others)))
 lacking (refused n) x e l = absurd (none 0 (rw e at l))
 lacking (taken complete) x e l = absurd (none 0 (rw e at l))
@@ -55,7 +55,7 @@ lacking (taken (missing [])) x e l = absurd (none 0 (rw e at l))
 lacking (taken (missing (q ∷ rs))) x e l = (rs, rw e)
 
 -- the answers, laid flat
-as-it-stands : (v : Standing) → Stands (flat_standing (standing_of (taken v))) v
+as-it-stands : (v : Standing) → Stands (flat_standing (taken (standing_of v))) v
 as-it-stands complete = record { refusal = refl; complete = refl; missing = refl; first = refl; last = refl }
 as-it-stands ongoing = record { refusal = refl; complete = refl; missing = refl; first = refl; last = refl }
 as-it-stands (missing rs) = record { refusal = refl; complete = refl; missing = refl; first = refl; last = refl }
@@ -65,7 +65,7 @@ all-ranges r complete e = let m = standing-means r complete e in none-missing r.
 all-ranges r ongoing e = let m = standing-means r ongoing e in none-missing r.held r.next.0 r.top.0 (omega (arith, m.1))
 all-ranges r (missing rs) e = sym (standing-means r (missing rs) e).0
 
-range_at_lem : (r : Record) (v : Standing) → standing r ≡ taken v → (place : ℕ) → range_at r place ≡ taken (ranges_of v at place)
+range_at_lem : (r : Record) (v : Standing) → standing r ≡ taken v → (place : ℕ) → range_at r place ≡ taken (slice_get (ranges_of v) place)
 unfolding standing range_at
 range_at_lem r v e place =
     let hung : hangs r ≡ true = (all-passed ((hangs r else Broken) ∷ []) (taken (state r)) v e).0.0 in
@@ -77,7 +77,7 @@ unfolding standing
 stood s r = rw (hung-record s (inv r))
 
 module _ (h : Held) (s : State) (i : Holds h s) where
-  pub standing-left : hp-standing-of h.kept (λ x. x ≡ flat_standing (standing_of (standing s.kept)))
+  pub standing-left : hp-standing-of h.kept (λ x. x ≡ flat_standing (standing s.kept told_by standing_of))
   standing-left κs a x e g p = rw (p, g, i.kept)
 
   pub stands : (v : Standing) → standing s.kept ≡ taken v → hp-standing-of h.kept (λ x. Stands x v)

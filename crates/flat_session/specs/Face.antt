@@ -192,7 +192,7 @@ LeavesOpened name lent area left = hp-open-ufo name (λ x. x.refusal ≡ 0 → l
 
 -- What the other answers say (by-opening, by-standing and by-range in Claims): a record is opened or refused;
 abbrev pub Opens : FlatOpened → Verdict Record → Type 0
-Opens x (refused n) = x.refusal ≡ n
+Opens x (refused why) = x.refusal ≡ number_of why
 Opens x (taken kept) = (x.refusal ≡ 0) × (known_record x.opened ≡ taken kept)
 
 -- it stands as complete or not, and so many ranges are missing, of which this is the first, noughts where there is none;
