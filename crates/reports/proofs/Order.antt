@@ -8,6 +8,7 @@ use borrow.Author.Tests.{ne_eqb}
 use Rattle.wire.specs.Checks.{refused, taken}
 use Rattle.wire.specs.declared.kinds.Name.{Name}
 use Rattle.wire.specs.declared.kinds.SessionId.{SessionId}
+use Rattle.wire.specs.declared.refusal.Refusal.{Refusal}
 use Rattle.wire.specs.declared.refusal.Refusal.TheVariants.{OtherSession, NotForRecord}
 use Rattle.ufo.specs.Down as ufo
 use Rattle.memx.specs.Packet as memx
@@ -16,9 +17,9 @@ use Rattle.record.specs.declared.Session.TheVariants.{Ufo, Memx}
 use Rattle.reports.specs.Reports.{report_of, of_memx}
 
 module _ (name : Name) (d : List ℕ) where
-  pub ufo-reader-first : (n : ℕ) → ufo.read d ≡ refused n → report_of (Ufo name) d ≡ refused n
+  pub ufo-reader-first : (why : Refusal) → ufo.read d ≡ refused why → report_of (Ufo name) d ≡ refused why
   unfolding report_of
-  ufo-reader-first n e = rw e
+  ufo-reader-first why e = rw e
 
   pub then-accept-is-16 : (session : List ℕ) (next : ℕ) → ufo.read d ≡ taken (ufo.accept session next) → report_of (Ufo name) d ≡ refused NotForRecord
   unfolding report_of
@@ -35,9 +36,9 @@ session_of (memx.shutdown session highest extra) = session
 session_of (memx.messages session first extra ms) = session
 
 module _ (own : SessionId) (d : List ℕ) where
-  pub memx-reader-first : (n : ℕ) → memx_read.read d ≡ refused n → report_of (Memx own) d ≡ refused n
+  pub memx-reader-first : (why : Refusal) → memx_read.read d ≡ refused why → report_of (Memx own) d ≡ refused why
   unfolding report_of
-  memx-reader-first n e = rw e
+  memx-reader-first why e = rw e
 
   other : (p : memx.Packet) → ((session_of p ≡ own.0) → ⊥) → of_memx own.0 p ≡ refused OtherSession
   other (memx.heartbeat session highest extra) f = rw (ne_eqb session own.0 f)

@@ -6,7 +6,7 @@ use mathlib.Core.Path.{◌≡◌, refl}
 use native.Mathlib.Omega.{arith}
 use borrow.Author.Tests.{le-leb}
 use lib.ListN.{length, drop}
-use Rattle.wire.specs.Checks.{◌is◌, Verdict, refused, taken, ◌else◌}
+use Rattle.wire.specs.Checks.{◌is◌, Verdict, refused, taken, ◌else◌, ◌told_by◌}
 use Rattle.wire.specs.Fields.{Bytes}
 use Rattle.wire.specs.declared.kinds.Name.{Name}
 use Rattle.wire.specs.declared.kinds.SessionId.{SessionId}
@@ -57,8 +57,8 @@ owns id session d said report s e =
 
 module _ (d : List ℕ) (b : Bytes d) where
   sound-ufo : (name : Name) (p : ufo.Packet) (report : Report) → ufo.read d ≡ taken p → of_ufo p ≡ taken report → Sound (Ufo name) d report
-  sound-ufo name (ufo.accept session next) report e f = not-both (refused NotForRecord) 16 report refl f
-  sound-ufo name (ufo.reject reason) report e f = not-both (refused NotForRecord) 16 report refl f
+  sound-ufo name (ufo.accept session next) report e f = not-both (refused NotForRecord) NotForRecord report refl f
+  sound-ufo name (ufo.reject reason) report e f = not-both (refused NotForRecord) NotForRecord report refl f
   sound-ufo name (ufo.messages first ms) report e f =
       let c = carries d first ms e in
       let some = c.some in
@@ -110,17 +110,17 @@ pub record SaysMessages (place first count p : ℕ) (v : Verdict Report) : Type 
   pub places : p ≡ place
   pub report : v ≡ taken (messages first ms)
 
-abbrev pub Says : ℕ → Reported → Verdict Report → Type 0
-Says place (reported.Refused n) v = v ≡ refused n
-Says place (reported.Messages first count p) v = SaysMessages place first.0 count p v
-Says place (reported.News number) v = v ≡ taken (news number.0)
-Says place (reported.End total) v = v ≡ taken (end total.0)
+abbrev pub Says : ℕ → Verdict Reported → Verdict Report → Type 0
+Says place (refused why) v = v ≡ refused why
+Says place (taken (reported.Messages first count p)) v = SaysMessages place first.0 count p v
+Says place (taken (reported.News number)) v = v ≡ taken (news number.0)
+Says place (taken (reported.End total)) v = v ≡ taken (end total.0)
 
-says : (place : ℕ) (v : Verdict Report) → Says place (reported_of place v) v
-says place (refused n) = refl
+says : (place : ℕ) (v : Verdict Report) → Says place (v told_by reported_of place) v
+says place (refused why) = refl
 says place (taken (messages first ms)) = record { ms = ms; counts = refl; places = refl; report = refl }
 says place (taken (news number)) = refl
 says place (taken (end total)) = refl
 
-pub reported-so : (place : ℕ) (v : Verdict Report) (h : Reported) → h ≡ reported_of place v → Says place h v
+pub reported-so : (place : ℕ) (v : Verdict Report) (h : Verdict Reported) → h ≡ (v told_by reported_of place) → Says place h v
 reported-so place v h e = rw e (says place v)

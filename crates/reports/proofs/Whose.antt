@@ -27,8 +27,8 @@ reported-ufo name d report e = let w = went (ufo.read d) of_ufo report e in by w
   by : (p : ufo.Packet) → ufo.read d ≡ taken p → of_ufo p ≡ taken report
       → ((first : ℕ) × (ms : List (List ℕ)) × (ufo.read d ≡ taken (ufo.messages first ms)))
       ⊎ ((total : ℕ) × (ufo.read d ≡ taken (ufo.end total)))
-  by (ufo.accept session next) q f = not-both (refused NotForRecord) 16 report refl f
-  by (ufo.reject reason) q f = not-both (refused NotForRecord) 16 report refl f
+  by (ufo.accept session next) q f = not-both (refused NotForRecord) NotForRecord report refl f
+  by (ufo.reject reason) q f = not-both (refused NotForRecord) NotForRecord report refl f
   by (ufo.messages first ms) q f = inl (first, ms, q)
   by (ufo.end total) q f = inr (total, q)
 

@@ -57,11 +57,10 @@ blocks_at (Ufo name) d = 7
 blocks_at (Memx id) d = memx_read.blocks_at d
 
 -- the code's answer: of messages how many there are, and where their blocks begin
-abbrev pub reported_of : ℕ → Verdict Report → Reported
-reported_of place (refused n) = reported.Refused n
-reported_of place (taken (messages first ms)) = reported.Messages (record { 0 = first }) (length ms) place
-reported_of place (taken (news highest)) = reported.News (record { 0 = highest })
-reported_of place (taken (end total)) = reported.End (record { 0 = total })
+abbrev pub reported_of : ℕ → Report → Reported
+reported_of place (messages first ms) = reported.Messages (record { 0 = first }) (length ms) place
+reported_of place (news highest) = reported.News (record { 0 = highest })
+reported_of place (end total) = reported.End (record { 0 = total })
 
 -- count messages from number first on, whose blocks stand in d from p to its end
 pub record Fills (d : List ℕ) (p first count : ℕ) : Type 0 where

@@ -1,13 +1,13 @@
 // Reports: what a datagram reports to a record of a session, in either style.
 #![tactic(auto)]
 
-ghost use Rattle.std.specs.Prelude.{◌≡◌, if◌then◌else◌};
-ghost use Rattle.wire.specs.Checks.{◌is◌, ◌into◌};
+ghost use Rattle.std.specs.Prelude.{◌≡◌};
+ghost use Rattle.wire.specs.Checks.{◌into◌, ◌told_by◌};
 ghost use Rattle.ufo.specs.Down as ufo;
 ghost use Rattle.memx.specs.Read as memx_read;
 ghost use Rattle.reports.specs.Reports.{of_ufo, of_memx, report_of, blocks_at, reported_of};
 
-use memx::reading::Memx;
+use memx::reading::Says;
 use memx::{layout, reading};
 use record::Session;
 use ufo::down;
@@ -18,9 +18,8 @@ use wire::refusal::Refusal;
 // Where the blocks of UFO messages begin.
 const UFO_BLOCKS: usize = 7;
 
-#[derive(Clone, Copy)]
+#[derive(Clone, Copy, Debug, PartialEq, Eq)]
 pub enum Reported {
-    Refused(Refusal),
     // Their blocks stand from the place to the datagram's end.
     Messages {
         first: Sequence,
@@ -36,76 +35,42 @@ pub enum Reported {
 }
 
 // An `S` or an `E` names no session: it is taken for the record's.
-fn ufo_report(datagram: &[u8]) -> Reported
-    ensures { result ≡ reported_of 7 (ufo.read datagram.now into of_ufo) }
+fn ufo_report(datagram: &[u8]) -> Result<Reported, Refusal>
+    ensures { result ≡ ufo.read datagram.now into of_ufo told_by reported_of 7 }
 {
-    let packet = down::read_down(datagram);
-    match packet {
-        Down::Refused(number) => Reported::Refused(number),
-        Down::Messages { first, count } => Reported::Messages {
+    match down::read_down(datagram)? {
+        Down::Messages { first, count } => Ok(Reported::Messages {
             first,
             count,
             place: UFO_BLOCKS,
-        },
-        Down::End { total } => Reported::End { total },
-        Down::Accept {
-            session: _,
-            next: _,
-        } => Reported::Refused(Refusal::NotForRecord),
-        Down::Reject { reason: _ } => Reported::Refused(Refusal::NotForRecord),
+        }),
+        Down::End { total } => Ok(Reported::End { total }),
+        Down::Accept { .. } | Down::Reject { .. } => Err(Refusal::NotForRecord),
     }
 }
 
 // A MEMX packet names its session, and only the record's own is reported.
-fn owned(own: SessionId, session: SessionId, report: Reported) -> Reported
-    ensures { result ≡ (if session.0 is own.0 then report else Reported.Refused 11) }
+fn memx_report(own: SessionId, datagram: &[u8]) -> Result<Reported, Refusal>
+    ensures { result ≡ memx_read.read datagram.now into of_memx own.0
+        told_by reported_of (memx_read.blocks_at datagram.now) }
 {
-    if session.0 == own.0 {
-        report
-    } else {
-        Reported::Refused(Refusal::OtherSession)
+    let packet = reading::read(datagram)?;
+    if packet.session != own {
+        return Err(Refusal::OtherSession);
     }
-}
-
-fn memx_report(own: SessionId, datagram: &[u8]) -> Reported
-    ensures { result ≡ reported_of (memx_read.blocks_at datagram.now)
-        (memx_read.read datagram.now into of_memx own.0) }
-{
-    let packet = reading::read(datagram);
-    match packet {
-        Memx::Refused(number) => Reported::Refused(number),
-        Memx::Heartbeat {
-            session,
-            highest,
-            extra: _,
-        } => owned(own, session, Reported::News { highest }),
-        Memx::Shutdown {
-            session,
-            highest,
-            extra: _,
-        } => owned(own, session, Reported::End { total: highest }),
-        Memx::Messages {
-            session,
+    Ok(match packet.says {
+        Says::Heartbeat(highest) => Reported::News { highest },
+        Says::Shutdown(highest) => Reported::End { total: highest },
+        Says::Messages { first, count } => Reported::Messages {
             first,
             count,
-            extra,
-        } => {
-            let place = layout::BLOCKS + extra as usize;
-            owned(
-                own,
-                session,
-                Reported::Messages {
-                    first,
-                    count,
-                    place,
-                },
-            )
-        }
-    }
+            place: layout::BLOCKS + packet.extra as usize,
+        },
+    })
 }
 
-pub fn report_of(session: Session, datagram: &[u8]) -> Reported
-    ensures { result ≡ reported_of (blocks_at session datagram.now) (report_of session datagram.now) }
+pub fn report_of(session: Session, datagram: &[u8]) -> Result<Reported, Refusal>
+    ensures { result ≡ report_of session datagram.now told_by reported_of (blocks_at session datagram.now) }
 {
     match session {
         Session::Ufo(_) => ufo_report(datagram),

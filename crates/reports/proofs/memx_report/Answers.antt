@@ -1,58 +1,41 @@
--- `memx_report` meets its contract: what the reader answers decides, and then whose session it is.
-use Rattle.std.specs.Prelude.{if◌then◌else◌}
+-- `memx_report` meets its contract: the blocks of messages begin where the datagram says.
 use Prim.Native.Nat.{ℕ, ◌+◌}
-use mathlib.Core.Path.{◌≡◌, refl}
+use mathlib.Core.Path.{◌≡◌, refl, sym, ap, ◌∙◌}
+use mathlib.Core.Bool.{true}
 use mathlib.Core.List.{List}
+use borrow.Author.Tests.{not-false}
 use lib.ListN.{length}
-use Rattle.wire.specs.Checks.{◌is◌, Verdict, refused, taken, ◌into◌}
-use Rattle.wire.specs.declared.refusal.Refusal.TheVariants.{OtherSession}
-use Rattle.wire.proofs.Tests.{by-test}
+use Rattle.wire.specs.Checks.{◌is◌, Verdict, refused, taken, ◌into◌, ◌told_by◌}
+use Rattle.wire.specs.declared.kinds.Sequence.{Sequence}
+use Rattle.wire.proofs.Checks.{taken-same}
 use Rattle.memx.specs.Packet as memx
 use Rattle.memx.specs.Read.{blocks_at, read}
 use Rattle.memx.proofs.Carried.{carried-place}
 use Rattle.memx.specs.Reading.{memx_of}
 use Rattle.memx.specs.declared.reading.Memx.{Memx}
-use Rattle.memx.specs.declared.reading.Memx.TheVariants as reading
-use Rattle.reports.specs.Reports.{Report, messages, news, end, owned, of_memx, reported_of}
-use Rattle.reports.specs.declared.Reported.{Reported}
+use Rattle.memx.specs.declared.reading.Says.TheVariants as says
+use Rattle.reports.specs.Reports.{of_memx, reported_of}
 use Rattle.reports.specs.declared.Reported.TheVariants as reported
-use Rattle.reports.proofs.memx_report.Goals.{After-read-packet}
 use Rattle.reports.proofs.memx_report.Goals as goal
 
--- what follows from the reader's answer
-abbrev reported_as : ℕ → Memx → Reported
-reported_as own (reading.Refused n) = reported.Refused n
-reported_as own (reading.Heartbeat session highest extra) = if session.0 is own then reported.News highest else reported.Refused OtherSession
-reported_as own (reading.Shutdown session highest extra) = if session.0 is own then reported.End highest else reported.Refused OtherSession
-reported_as own (reading.Messages session first count extra) =
-    if session.0 is own then reported.Messages first count (20 + extra) else reported.Refused OtherSession
-
-if-owned : (own session place : ℕ) (report : Report)
-    → reported_of place (owned own session report) ≡ (if session is own then reported_of place (taken report) else reported.Refused OtherSession)
-if-owned own session place report = by-test (session is own) (λ e. rw e) (λ e. rw e)
-
-by_answer : (own : ℕ) (d : List ℕ) (v : Verdict memx.Packet) → read d ≡ v
-    → reported_of (blocks_at d) (v into of_memx own) ≡ reported_as own (memx_of v)
-by_answer own d (refused n) e = refl
-by_answer own d (taken (memx.heartbeat session highest extra)) e = if-owned own session (blocks_at d) (news highest)
-by_answer own d (taken (memx.shutdown session highest extra)) e = if-owned own session (blocks_at d) (end highest)
-by_answer own d (taken (memx.messages session first extra ms)) e =
-    rw (carried-place d session first extra ms e) (if-owned own session (20 + length extra) (messages first ms))
-
-goes_on : (c : After-read-packet) → let a = c.args in
-    reported_of (blocks_at a.datagram.now) (read a.datagram.now into of_memx a.own.0) ≡ reported_as a.own.0 c.read-packet.result
-goes_on c =
-    let a = c.args in
-    rw (by_answer a.own.0 a.datagram.now _ refl, ← c.read-packet.ensures)
-
-pub returns-in-Refused : goal.returns-in-Refused
-returns-in-Refused c = rw (goes_on (goal.at.returns-in-Refused c).After-read-packet, c.in-Refused.is)
-
-pub returns-in-Heartbeat : goal.returns-in-Heartbeat
-returns-in-Heartbeat c = rw (goes_on (goal.at.returns-in-Heartbeat c).After-read-packet, c.in-Heartbeat.is) c.owned.ensures
-
-pub returns-in-Shutdown : goal.returns-in-Shutdown
-returns-in-Shutdown c = rw (goes_on (goal.at.returns-in-Shutdown c).After-read-packet, c.in-Shutdown.is) c.owned-in-Shutdown.ensures
+placed : (own : ℕ) (d : List ℕ) (m : Memx) (first : Sequence) (count : ℕ) (v : Verdict memx.Packet) → read d ≡ v
+    → v told_by memx_of ≡ taken m → (m.session.0 is own) ≡ true → m.says ≡ says.Messages first count
+    → v into of_memx own told_by reported_of (blocks_at d) ≡ taken (reported.Messages first count (20 + m.extra))
+placed own d m first count (refused why) e t o s = cc
+placed own d m first count (taken (memx.heartbeat session highest extra)) e t o s = cc
+placed own d m first count (taken (memx.shutdown session highest extra)) e t o s = cc
+placed own d m first count (taken (memx.messages session f extra ms)) e t o s =
+    let same : memx_of (memx.messages session f extra ms) ≡ m = taken-same _ m t in
+    let id : session ≡ m.session.0 = ap (λ (x : Memx). x.session.0) same in
+    let more : length extra ≡ m.extra = ap (λ (x : Memx). x.extra) same in
+    let says : says.Messages (record { 0 = f }) (length ms) ≡ says.Messages first count = ap (λ (x : Memx). x.says) same ∙ s in
+    let first' : f ≡ first.0 = cc in
+    let count' : length ms ≡ count = cc in
+    rw (carried-place d session f extra ms e, id, o, more, first', count')
 
 pub returns-in-Messages : goal.returns-in-Messages
-returns-in-Messages c = rw (goes_on (goal.at.returns-in-Messages c).After-read-packet, c.in-Messages.is) c.owned-in-Messages.ensures
+returns-in-Messages c =
+    let a = c.args in
+    let m = c.in_ok-packet.packet in
+    sym (placed a.own.0 a.datagram.now m c.in-Messages.first c.in-Messages.count (read a.datagram.now) refl
+    (sym c.read.ensures ∙ c.in_ok-packet.was) (not-false (m.session.0 is a.own.0) (sym c.if-ne.ensures)) c.in-Messages.is)
