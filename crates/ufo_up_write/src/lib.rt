@@ -28,7 +28,12 @@ fn put_head(out: &mut [u8], size: u16, kind: u8)
     out[2] = kind;
 }
 
-pub fn write_login(user: User, password: Password, session: Name, out: &mut [u8]) -> Result<usize, Refusal>
+pub fn write_login(
+    user: User,
+    password: Password,
+    session: Name,
+    out: &mut [u8],
+) -> Result<usize, Refusal>
     ensures { Settled (reply (login (user_bytes user) (name_bytes password.0) (name_bytes session)) (length out.old))
         out.old result out.new }
 {
