@@ -2,57 +2,38 @@
 -- Assumes nothing.
 use Rattle.std.specs.Prelude.{if◌then◌else◌}
 use Prim.Native.Nat.{ℕ, ◌≤◌, ◌<◌}
-use mathlib.Core.Path.{◌≡◌, refl, ap, sym, ◌∙◌}
+use mathlib.Core.Path.{◌≡◌, refl, sym, ◌∙◌}
 use mathlib.Core.Logic.{⊎_elim}
 use mathlib.Core.List.{List}
 use mathlib.Core.Bool.{true, false, ◌||◌}
 use native.Mathlib.Omega.{arith}
-use denote.Enum.Declared.{tag_of}
 use lib.Dec.{eqb}
 use lib.ListN.{length}
 use borrow.Author.Tests.{ne_eqb, eqb-true, eqb-false}
-use Rattle.wire.specs.Checks.{Verdict, refused, taken, checked}
+use Rattle.wire.specs.Checks.{Verdict, refused, taken, checked, ◌told_by◌}
 use Rattle.wire.specs.Reply.{within, settle}
+use Rattle.wire.specs.declared.refusal.Refusal.{Refusal}
 use Rattle.wire.specs.declared.refusal.Refusal.TheVariants.{Overlong, Linefeed}
-use Rattle.soup.specs.Packet.{Packet, debug, accept, reject, sequenced, server_heartbeat, end_of_session, login, unsequenced}
-use Rattle.soup.specs.Packet.{client_heartbeat}
-use Rattle.soup.specs.Packet.{logout, line, carries}
+use Rattle.wire.proofs.Checks.{told, told-refused}
+use Rattle.soup.specs.Packet.{Packet, debug, sequenced, unsequenced}
+use Rattle.soup.specs.Packet.{line, carries}
 use Rattle.soup.specs.Read.{payload, unbroken, line_checks, by_type}
-use Rattle.soup.specs.Reading.{packet_of, reading_of}
+use Rattle.soup.specs.Reading.{packet_of}
 use Rattle.soup_write.specs.Writing.{sent}
 use Rattle.wire.proofs.Tests.{by-test, either}
 use Rattle.soup.proofs.Lines.{length-line, last_line, front-line}
 use Rattle.soup.proofs.Sorting.{overlong, by-type}
-use Rattle.soup.specs.contracts.reading.Reading as Reading-type
 use Rattle.soup.specs.declared.reading.Reading.{Reading}
-use Rattle.soup.specs.declared.reading.Reading.TheVariants.{Refused}
 
--- the place of a case among the reader's answers: a refusal is the first
-abbrev place : Reading → ℕ
-place r = tag_of Reading-type.the_type r
+-- the reader's answer is a refusal: so is the reply
+pub refused-by : (v : Verdict Packet) (why : Refusal) (packet : List ℕ) (room : ℕ) → v told_by packet_of ≡ refused why
+    → settle v packet room ≡ refused why
+refused-by v why packet room e = rw (told-refused v packet_of why e)
 
-later : (p : Packet) → place (packet_of p) ≡ 0 → ⊥
-later (debug text) e = omega arith
-later (accept session number) e = omega arith
-later (reject reason) e = omega arith
-later (sequenced message) e = omega arith
-later server_heartbeat e = omega arith
-later end_of_session e = omega arith
-later (login user password session number) e = omega arith
-later (unsequenced message) e = omega arith
-later client_heartbeat e = omega arith
-later logout e = omega arith
-
--- the reader's answer is a refusal: so is the verdict
-pub refused-by : (v : Verdict Packet) (n : ℕ) → reading_of v ≡ Refused n → v ≡ refused n
-refused-by (refused m) n e = cc
-refused-by (taken p) n e = absurd (later p (ap place e))
-
--- it is any other case: the verdict has taken the packet
-pub taken-by : (v : Verdict Packet) (r : Reading) (packet : List ℕ) (room : ℕ) → r ≡ reading_of v
-    → ((n : ℕ) → r ≡ Refused n → ⊥) → settle v packet room ≡ within room packet
-taken-by (refused n) r packet room e k = absurd (k n e)
-taken-by (taken p) r packet room e k = refl
+-- it is any other: the verdict has taken the packet
+pub taken-by : (v : Verdict Packet) (r : Reading) (packet : List ℕ) (room : ℕ) → v told_by packet_of ≡ taken r
+    → settle v packet room ≡ within room packet
+taken-by v r packet room e = rw (told v packet_of r e).was
 
 -- ---- a payload under its type byte
 

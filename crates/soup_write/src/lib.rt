@@ -11,17 +11,14 @@ ghost use Rattle.soup_write.specs.Writing.{sent, reply};
 
 use soup::{line, reading};
 use wire::kinds::{Name, Password, Sequence, User};
-use wire::refusal::Refusal;
 use wire::output;
+use wire::refusal::Refusal;
 
 // A packet that is laid out already: the reader is asked.
 fn write_packet(packet: &[u8], out: &mut [u8]) -> Result<usize, Refusal>
     ensures { Settled (sent packet.now (length out.old)) out.old result out.new }
 {
-    let said = reading::read(packet);
-    if let reading::Reading::Refused(n) = said {
-        return Err(n);
-    }
+    reading::read(packet)?;
     if out.len() < packet.len() {
         return Err(Refusal::Room);
     }

@@ -6,6 +6,7 @@ use lib.ListN.{length, length-set}
 use lib.Seq.{take-length}
 use borrow.Author.Tests.{not-true, not-false}
 use Rattle.wire.specs.Reply.{within}
+use Rattle.wire.specs.declared.refusal.Refusal.TheVariants.{Overlong, Linefeed}
 use Rattle.wire.proofs.Settling.{refuses, lacks-room, has_room}
 use Rattle.soup.specs.Packet.{line}
 use Rattle.soup_write.specs.Writing.{sent}
@@ -18,12 +19,12 @@ use Rattle.soup_write.proofs.write_payload.Goals as goal
 pub returns-then-length-gt-LONGEST_PAYLOAD : goal.returns-then-length-gt-LONGEST_PAYLOAD
 returns-then-length-gt-LONGEST_PAYLOAD c =
     let a = c.args in
-    refuses _ a.out.now 2 (too_long a.kind a.payload.now (length a.out.now) c.if-length-gt-LONGEST_PAYLOAD.true)
+    refuses _ a.out.now Overlong (too_long a.kind a.payload.now (length a.out.now) c.if-length-gt-LONGEST_PAYLOAD.true)
 
 pub returns-then-not-is_unbroken : goal.returns-then-not-is_unbroken
 returns-then-not-is_unbroken c =
     let a = c.args in
-    refuses _ a.out.now 8 (payload-decides a.kind a.payload.now (length a.out.now) c.requires c.if-length-gt-LONGEST_PAYLOAD.false
+    refuses _ a.out.now Linefeed (payload-decides a.kind a.payload.now (length a.out.now) c.requires c.if-length-gt-LONGEST_PAYLOAD.false
     ∙ rw (← c.is_unbroken.ensures, not-true c.is_unbroken.result c.if-not-is_unbroken.true-raw))
 
 -- the payload is lawful
