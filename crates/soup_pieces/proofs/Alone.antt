@@ -7,6 +7,7 @@ use native.Mathlib.Omega.{arith}
 use lib.ListN.{length, take, take-append-drop}
 use lib.Seq.{drop-length}
 use borrow.Author.Tests.{le-leb}
+use Rattle.wire.specs.Checks.{Verdict, taken}
 use Rattle.soup_pieces.specs.Machine.{first}
 use Rattle.soup_pieces.specs.Eating.{ready, eating}
 use Rattle.soup_pieces.specs.Calling.{Lent, Permitted}
@@ -24,8 +25,8 @@ unfolding eating ready
 only-kept-count pieces buffer other piece place h k e = rw (le-leb 4098 (length buffer) h, le-leb 4098 (length other) k, e)
 
 -- nothing is left of the piece, as of an empty one from the first
-pub nothing-changes : (l : Lent) (piece : List ℕ) (r : Taken) (left : List ℕ) → Ready l → Permitted l piece (length piece) r left
-    → (r ≡ takes.UsedUp l.pieces) × (left ≡ l.buffer)
+pub nothing-changes : (l : Lent) (piece : List ℕ) (r : Verdict Taken) (left : List ℕ) → Ready l → Permitted l piece (length piece) r left
+    → (r ≡ taken (takes.UsedUp l.pieces)) × (left ≡ l.buffer)
 unfolding first
 nothing-changes l piece r left h a =
     let e = goes_on l.pieces l.buffer piece (length piece) h (omega arith) in

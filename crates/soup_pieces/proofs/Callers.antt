@@ -9,12 +9,15 @@ use mathlib.Core.Bool.{true}
 use native.Mathlib.Omega.{arith}
 use lib.ListN.{length, take, drop, length-append, length-drop}
 use lib.Seq.{take-append_seam, drop-append_seam, drop-drop}
-use Rattle.wire.specs.Checks.{taken}
+use Rattle.wire.specs.Checks.{◌is◌, Verdict, refused, taken}
+use Rattle.wire.specs.declared.refusal.Refusal.{Refusal}
+use Rattle.wire.proofs.Tests.{by-test}
+use borrow.Author.Tests.{eqb-true}
 use Rattle.wire.specs.Reply.{left_of}
 use Rattle.soup.specs.Reading.{packet_of}
 use Rattle.soup_pieces.specs.Machine.{Machine, Yield, packet, refusal, First, used_up, given, first, fates, fed, yielded}
-use Rattle.soup_pieces.specs.Eating.{machine_of, pieces_of, ready, returned, at_start}
-use Rattle.soup_pieces.specs.Calling.{Lent, machine_in, Entry, Permitted, Seen, a_packet, a_refusal, seen, Calls, uses_up, hands, refuses}
+use Rattle.soup_pieces.specs.Eating.{machine_of, pieces_of, ready, told_number, returned, at_start}
+use Rattle.soup_pieces.specs.Calling.{Lent, machine_in, Entry, Permitted, Seen, a_packet, a_refusal, number_in, seen, Calls, uses_up, hands, refuses}
 use Rattle.soup_pieces.specs.Calling.{Underway, begun, handing, refusing, Feeds, done, feeds, joined}
 use Rattle.soup_pieces.specs.declared.Taken.{Taken}
 use Rattle.soup_pieces.specs.declared.Taken.TheVariants as takes
@@ -63,6 +66,10 @@ ready-still t left i h e =
       whole = let k : take (length t.kept) left ≡ t.kept = ap (λ (s : Machine). s.kept) e in rw k i.whole;
     })
 
+-- what is told of a number is the number
+pub number-again : (n : ℕ) → number_in (told_number n) ≡ n
+number-again n = by-test (n is 0) (λ t. rw t (sym (eqb-true n 0 t))) (λ t. rw t)
+
 seen-append : (a b : List Yield) → seen (a ++ b) ≡ seen a ++ seen b
 seen-append [] b = refl
 seen-append (packet d p number ∷ a) b = rw (seen-append a b)
@@ -86,12 +93,12 @@ module _ (l : Lent) (piece : List ℕ) (place : ℕ) where
     same : fed s w ≡ fed (machine_in then) (drop next piece)
 
   -- what an answer comes to, with what is left in the buffer
-  abbrev Means : Taken → List ℕ → Type 0
-  Means (takes.Refused n) left = ⊥
-  Means (takes.UsedUp then) left = (yielded (fates s w) ≡ []) × (machine_of then left ≡ fed s w) × (ready then left ≡ true)
-  Means (takes.Packet says number bytes next then) left = Further (a_packet (take bytes left) says number.0) next
+  abbrev Means : Verdict Taken → List ℕ → Type 0
+  Means (refused why) left = ⊥
+  Means (taken (takes.UsedUp then)) left = (yielded (fates s w) ≡ []) × (machine_of then left ≡ fed s w) × (ready then left ≡ true)
+  Means (taken (takes.Packet says number bytes next then)) left = Further (a_packet (take bytes left) says (number_in number)) next
       (record { pieces = then; buffer = left })
-  Means (takes.Unfit why bytes next then) left = Further (a_refusal (take bytes left) why) next (record { pieces = then; buffer = left })
+  Means (taken (takes.Unfit why bytes next then)) left = Further (a_refusal (take bytes left) why) next (record { pieces = then; buffer = left })
 
   module _ (h : Ready l) (p : place ≤ length piece) where
     long : 4098 ≤ length l.buffer
@@ -119,28 +126,28 @@ module _ (l : Lent) (piece : List ℕ) (place : ℕ) where
           same = rw (to, back, (then-on g).1);
         }
 
-    means : (f : First) → Goes s w f → Means (returned piece (taken f)) (left_of (taken (at_start f)) l.buffer)
+    means : (f : First) → Goes s w f → Means (taken (returned piece f)) (left_of (taken (at_start f)) l.buffer)
     means (used_up t) g =
         let rest = t.kept ++ drop (length t.kept) l.buffer in
         let back : machine_of (pieces_of t) rest ≡ t = machine-back t (drop (length t.kept) l.buffer) in
         let i : Sound t = rw (← g.1) (sound-fed s w (sound-in l h)) in
         (g.0, back ∙ sym g.1, ready-still t rest i (still-long t.kept l.buffer long) back)
     means (given (packet d q number) t left) g =
-        rw (stands d) (further (packet d q number) _ t left _ refl g (still-long d l.buffer long))
+        rw (stands d, number-again number) (further (packet d q number) _ t left _ refl g (still-long d l.buffer long))
     means (given (refusal d why) t left) g = rw (stands d) (further (refusal d why) _ t left _ refl g (still-long d l.buffer long))
 
-    call-means : (r : Taken) (left : List ℕ) → Permitted l piece place r left → Means r left
+    call-means : (r : Verdict Taken) (left : List ℕ) → Permitted l piece place r left → Means r left
     call-means r left a =
         let e = goes_on l.pieces l.buffer piece place h p in
         let f = first s w in
-        let answer : r ≡ returned piece (taken f) = a.answer ∙ ap (returned piece) e in
+        let answer : r ≡ taken (returned piece f) = a.answer ∙ rw e in
         let bytes : left ≡ left_of (taken (at_start f)) l.buffer = a.bytes ∙ rw e in
         rw (answer, bytes) (means f (goes s w))
 
 -- where a state hangs together no call inside the piece is refused
-pub never-refused : (l : Lent) (piece : List ℕ) (place n : ℕ) (left : List ℕ) → Ready l → place ≤ length piece
-    → Permitted l piece place (takes.Refused n) left → ⊥
-never-refused l piece place n left h p a = call-means l piece place h p (takes.Refused n) left a
+pub never-refused : (l : Lent) (piece : List ℕ) (place : ℕ) (why : Refusal) (left : List ℕ) → Ready l → place ≤ length piece
+    → Permitted l piece place (refused why) left → ⊥
+never-refused l piece place why left h p a = call-means l piece place h p (refused why) left a
 
 -- ---- many calls, by an entry that allows no more than the contract
 
@@ -150,21 +157,21 @@ pub record Eaten-up (l : Lent) (bs : List ℕ) (saw : List Seen) (end : Lent) : 
   pub machine : machine_in end ≡ fed (machine_in l) bs
   pub ready : Ready end
 
-module _ (entry : Entry) (allows : (l : Lent) (piece : List ℕ) (place : ℕ) (r : Taken) (left : List ℕ) → entry l piece place r left
+module _ (entry : Entry) (allows : (l : Lent) (piece : List ℕ) (place : ℕ) (r : Verdict Taken) (left : List ℕ) → entry l piece place r left
     → Permitted l piece place r left) where
   -- ---- what a caller gets
 
   pub calls-eat : (piece : List ℕ) (l : Lent) (place : ℕ) (saw : List Seen) (end : Lent) → Ready l → place ≤ length piece
       → Calls entry piece l place saw end → Eaten-up l (drop place piece) saw end
   calls-eat piece l place saw end h p (uses_up _ _ kept left a) =
-      let m = call-means l piece place h p (takes.UsedUp kept) left (allows l piece place _ left a) in
+      let m = call-means l piece place h p (taken (takes.UsedUp kept)) left (allows l piece place _ left a) in
       record { gave = rw m.0; machine = m.1; ready = m.2 }
   calls-eat piece l place saw end h p (hands _ _ says number bytes next kept left more _ a cs) =
-      let m = call-means l piece place h p (takes.Packet says number bytes next kept) left (allows l piece place _ left a) in
+      let m = call-means l piece place h p (taken (takes.Packet says number bytes next kept)) left (allows l piece place _ left a) in
       let c = calls-eat piece (record { pieces = kept; buffer = left }) next more end m.ready m.inside cs in
       record { gave = rw (m.gave, c.gave); machine = c.machine ∙ sym m.same; ready = c.ready }
   calls-eat piece l place saw end h p (refuses _ _ why bytes next kept left more _ a cs) =
-      let m = call-means l piece place h p (takes.Unfit why bytes next kept) left (allows l piece place _ left a) in
+      let m = call-means l piece place h p (taken (takes.Unfit why bytes next kept)) left (allows l piece place _ left a) in
       let c = calls-eat piece (record { pieces = kept; buffer = left }) next more end m.ready m.inside cs in
       record { gave = rw (m.gave, c.gave); machine = c.machine ∙ sym m.same; ready = c.ready }
 
@@ -208,11 +215,11 @@ module _ (entry : Entry) (allows : (l : Lent) (piece : List ℕ) (place : ℕ) (
       → Underway entry piece l place calls then at → (place + calls ≤ at) × (at ≤ length piece) × Ready then
   calls-are-few piece l place calls then at h p (begun _ _) = (omega arith, p, h)
   calls-are-few piece l place calls then at h p (handing _ _ says number bytes next kept left n _ _ a cs) =
-      let m = call-means l piece place h p (takes.Packet says number bytes next kept) left (allows l piece place _ left a) in
+      let m = call-means l piece place h p (taken (takes.Packet says number bytes next kept)) left (allows l piece place _ left a) in
       let c = calls-are-few piece (record { pieces = kept; buffer = left }) next n then at m.ready m.inside cs in
       (omega (arith, m.moved, c.0), c.1, c.2)
   calls-are-few piece l place calls then at h p (refusing _ _ why bytes next kept left n _ _ a cs) =
-      let m = call-means l piece place h p (takes.Unfit why bytes next kept) left (allows l piece place _ left a) in
+      let m = call-means l piece place h p (taken (takes.Unfit why bytes next kept)) left (allows l piece place _ left a) in
       let c = calls-are-few piece (record { pieces = kept; buffer = left }) next n then at m.ready m.inside cs in
       (omega (arith, m.moved, c.0), c.1, c.2)
 
@@ -221,7 +228,7 @@ module _ (entry : Entry) (allows : (l : Lent) (piece : List ℕ) (place : ℕ) (
   Ends piece l place = (saw : List Seen) × (end : Lent) × Calls entry piece l place saw end
 
   -- by an entry that also allows whatever the contract permits
-  module _ (offers : (l : Lent) (piece : List ℕ) (place : ℕ) (r : Taken) (left : List ℕ) → Permitted l piece place r left
+  module _ (offers : (l : Lent) (piece : List ℕ) (place : ℕ) (r : Verdict Taken) (left : List ℕ) → Permitted l piece place r left
       → entry l piece place r left) where
     -- The contract always permits an answer, that of `first`. It uses the piece up, or the place in it is further on; so there are turns
     -- enough if there are more than bytes left.
@@ -239,7 +246,7 @@ module _ (entry : Entry) (allows : (l : Lent) (piece : List ℕ) (place : ℕ) (
       lent : Machine → First → Lent
       lent t x = record { pieces = pieces_of t; buffer = left_by x }
 
-      answer : (x : First) → f ≡ x → entry l piece place (returned piece (taken x)) (left_by x)
+      answer : (x : First) → f ≡ x → entry l piece place (taken (returned piece x)) (left_by x)
       answer x e =
           let g = goes_on l.pieces l.buffer piece place h p in
           offers l piece place _ _ (record { answer = rw (g, e); bytes = rw (g, e) })
@@ -254,9 +261,9 @@ module _ (entry : Entry) (allows : (l : Lent) (piece : List ℕ) (place : ℕ) (
           let next = length piece - length left in
           let m = means l piece place h p x g in
           let c = on (lent t x) next (omega (arith, m.moved, m.inside)) m.ready m.inside in (
-            a_packet (take (length d) (left_by x)) (packet_of q) number ∷ c.0,
+            a_packet (take (length d) (left_by x)) (packet_of q) (number_in (told_number number)) ∷ c.0,
             c.1,
-            hands l place (packet_of q) (record { 0 = number }) (length d) next (pieces_of t) (left_by x) c.0 c.1 (answer x e) c.2,
+            hands l place (packet_of q) (told_number number) (length d) next (pieces_of t) (left_by x) c.0 c.1 (answer x e) c.2,
           )
       by on (given (refusal d why) t left) e g =
           let x = given (refusal d why) t left in

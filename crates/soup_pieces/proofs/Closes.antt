@@ -1,7 +1,8 @@
 -- What is answered of a line that has ended, by its first byte, by what the reader says of it, and by whether it is its turn.
 -- Assumes nothing.
+use Rattle.std.specs.Prelude.{None, Some}
 use Prim.Native.Nat.{ℕ, ◌+◌, ◌-◌, ◌^◌, ◌≤◌, ◌<◌}
-use mathlib.Core.Path.{◌≡◌, refl, sym, ap, ◌∙◌}
+use mathlib.Core.Path.{◌≡◌, refl, sym, ◌∙◌}
 use mathlib.Core.List.{List, [], ◌∷◌, ◌++◌}
 use mathlib.Core.Bool.{true, false}
 use native.Mathlib.Numerals.{add-one}
@@ -9,34 +10,32 @@ use native.Mathlib.Omega.{arith}
 use lib.Dec.{eqb}
 use lib.ListN.{length, get_or, drop, length-append, length-drop}
 use lib.Seq.{length-take-le, take_at, get_or_at}
-use borrow.Author.Tests.{eq-eqb, le-leb, eqb-true, eqb-false}
-use denote.Enum.Declared.{tag_of}
+use borrow.Author.Tests.{eq-eqb, ne_eqb, eqb-false, leb-true, not-true}
 use Rattle.wire.specs.Fields.{Bytes}
-use Rattle.wire.specs.Checks.{Verdict, refused, taken}
-use Rattle.wire.proofs.Checks.{passed-all}
-use Rattle.wire.proofs.Tests.{by-test, impossible}
+use Rattle.wire.specs.Checks.{Verdict, refused, taken, checked, ◌into◌, ◌told_by◌}
+use Rattle.wire.proofs.Checks.{not-both, taken-same, all-passed, passed-all, into-checked, Told, told, told-refused}
+use Rattle.wire.proofs.Tests.{impossible}
+use Rattle.wire.specs.declared.refusal.Refusal.{Refusal}
+use Rattle.wire.specs.declared.refusal.Refusal.TheVariants.{NotForRecord}
 use Rattle.wire.specs.declared.kinds.Name.{Name}
 use Rattle.wire.specs.declared.kinds.Sequence.{Sequence}
 use Rattle.soup.specs.Packet.{Packet, debug, accept, reject, sequenced, server_heartbeat, end_of_session, login, unsequenced}
 use Rattle.soup.specs.Packet.{client_heartbeat}
 use Rattle.soup.specs.Packet.{logout, write}
 use Rattle.soup.specs.Read.{last, payload, unbroken, line_checks, read}
-use Rattle.soup.specs.Reading.{packet_of, reading_of}
+use Rattle.soup.specs.Reading.{packet_of}
 use Rattle.soup.specs.declared.reading.Reading.{Reading}
-use Rattle.soup.specs.declared.reading.Reading.TheVariants.{Refused, Accept, Sequenced}
+use Rattle.soup.specs.declared.reading.Reading.TheVariants.{Accept, Sequenced}
 use Rattle.soup.proofs.Exact.{read-is-written}
 use Rattle.soup.proofs.SpeltAnew.{same-type}
 use Rattle.soup.proofs.Lines.{two_bytes}
 use Rattle.soup.proofs.Sorting.{by-type}
-use Rattle.soup.specs.contracts.reading.Reading as Reading-type
-use Rattle.soup_pieces.specs.Machine.{begins, neither, role_of, judge}
-use Rattle.soup_pieces.specs.Closing.{Line, empty_pieces, unfit, unnumbered, sequenced_fault, closed}
+use Rattle.soup_pieces.specs.Machine.{begins, counted, neither, role_of, turn_checks, judge}
+use Rattle.soup_pieces.specs.Closing.{Line, empty_pieces, judged_of, closed_of, closed}
+use Rattle.soup_pieces.specs.declared.closing.Judged.{Judged}
 use Rattle.soup_pieces.specs.declared.Taken.TheVariants as takes
-use Rattle.soup_pieces.proofs.Turns.{early, past-last, second}
-
--- the place of a case among the reader's answers
-abbrev place_of : Reading → ℕ
-place_of r = tag_of Reading-type.the_type r
+use Rattle.soup_pieces.proofs.Turns.{second}
+use Rattle.soup_pieces.proofs.Order.{reader-first}
 
 -- not Login Accepted
 abbrev Other : Reading → Type 0
@@ -44,41 +43,26 @@ Other r = (session : Name) (number : Sequence) → r ≡ Accept session number �
 
 -- a packet's role by what the code answers of it, and by its first byte: no packet but an S has that of one
 record RoleByAnswer (p : Packet) : Type 0 where
-  later : place_of (packet_of p) ≡ 0 → ⊥
   accepted : (session : Name) (number : Sequence) → packet_of p ≡ Accept session number → role_of p ≡ begins number.0
   other : Other (packet_of p) → (get_or (write p) 0 0 ≡ 83 → ⊥) → role_of p ≡ neither
 
 role-by-answer : (p : Packet) → RoleByAnswer p
-role-by-answer (debug text) = record { later = λ e. omega arith; accepted = λ s n e. impossible cc; other = λ k b. refl }
-role-by-answer (accept session number) =
-    record { later = λ e. omega arith; accepted = λ s n e. cc; other = λ k b. absurd (k _ _ refl) }
-role-by-answer (reject reason) = record { later = λ e. omega arith; accepted = λ s n e. impossible cc; other = λ k b. refl }
-role-by-answer (sequenced message) = record { later = λ e. omega arith; accepted = λ s n e. impossible cc; other = λ k b. absurd (b refl) }
-role-by-answer server_heartbeat = record { later = λ e. omega arith; accepted = λ s n e. impossible cc; other = λ k b. refl }
-role-by-answer end_of_session = record { later = λ e. omega arith; accepted = λ s n e. impossible cc; other = λ k b. refl }
-role-by-answer (login user password session number) = record {
-  later = λ e. omega arith;
-  accepted = λ s n e. impossible cc;
-  other = λ k b. refl;
-}
-role-by-answer (unsequenced message) = record { later = λ e. omega arith; accepted = λ s n e. impossible cc; other = λ k b. refl }
-role-by-answer client_heartbeat = record { later = λ e. omega arith; accepted = λ s n e. impossible cc; other = λ k b. refl }
-role-by-answer logout = record { later = λ e. omega arith; accepted = λ s n e. impossible cc; other = λ k b. refl }
+role-by-answer (debug text) = record { accepted = λ s n e. impossible cc; other = λ k b. refl }
+role-by-answer (accept session number) = record { accepted = λ s n e. cc; other = λ k b. absurd (k _ _ refl) }
+role-by-answer (reject reason) = record { accepted = λ s n e. impossible cc; other = λ k b. refl }
+role-by-answer (sequenced message) = record { accepted = λ s n e. impossible cc; other = λ k b. absurd (b refl) }
+role-by-answer server_heartbeat = record { accepted = λ s n e. impossible cc; other = λ k b. refl }
+role-by-answer end_of_session = record { accepted = λ s n e. impossible cc; other = λ k b. refl }
+role-by-answer (login user password session number) = record { accepted = λ s n e. impossible cc; other = λ k b. refl }
+role-by-answer (unsequenced message) = record { accepted = λ s n e. impossible cc; other = λ k b. refl }
+role-by-answer client_heartbeat = record { accepted = λ s n e. impossible cc; other = λ k b. refl }
+role-by-answer logout = record { accepted = λ s n e. impossible cc; other = λ k b. refl }
 
 pub not-empty : (d : List ℕ) → Line d → 1 ≤ length d
 not-empty d l = some d l.ends where
   some : (d : List ℕ) → last d ≡ 10 → 1 ≤ length d
   some [] e = absurd (omega arith)
   some (b ∷ d) e = omega arith
-
--- the number after that of an S whose turn it is
-pub one_more : (next : ℕ) → next < 2 ^ 64 → 0 ≡ sequenced_fault next → next + 1 < 2 ^ 64
-one_more next h e =
-    by-test (eqb next 0)
-    (λ t. let z : next ≡ 0 = eqb-true next 0 t in omega arith)
-    (λ t. by-test (eqb next (2 ^ 64 - 1))
-    (λ f. let z : ◌≡◌ {A = ℕ} 0 7 = rw (t, f) at e in absurd (omega arith))
-    (λ f. let g : next ≡ 2 ^ 64 - 1 → ⊥ = eqb-false next (2 ^ 64 - 1) f in omega arith))
 
 -- what was gathered, and its linefeed, are a line
 pub ends-line : (s : List ℕ) → unbroken s ≡ true → length s ≤ 4097 → Line (s ++ 10 ∷ [])
@@ -91,10 +75,21 @@ ends-line s u h =
       whole = rw (k, take_at s (10 ∷ []) (length s) refl) u;
     }
 
-module _ (d : List ℕ) (l : Line d) (next place : ℕ) where
+-- an S has its turn
+abbrev Turn : ℕ → Verdict Unit
+Turn next = checked (turn_checks next counted) (taken tt)
+
+-- the number after that of an S whose turn it is
+pub one_more : (next : ℕ) (r : Verdict Unit) (u : Unit) → r ≡ Turn next → r ≡ taken u → (next ≡ 0 → ⊥) × (next + 1 < 2 ^ 64)
+one_more next r u e f =
+    let p = (all-passed (turn_checks next counted) (taken tt) u (sym e ∙ f)).0 in
+    let low = leb-true next (2 ^ 64 - 2) p.1.0 in
+    (eqb-false next 0 (not-true (eqb next 0) p.0), omega arith)
+
+module _ (d : List ℕ) (l : Line d) (next : ℕ) where
   -- ---- a line that begins with S
 
-  module _ (first : get_or d 0 0 ≡ 83) where
+  module _ (first : get_or d 0 0 ≡ 83) (r : Verdict Unit) (e : r ≡ Turn next) where
     pub two : 2 ≤ length d
     two = two_bytes d l.ends (λ e. let z : ◌≡◌ {A = ℕ} 83 10 = sym first ∙ e in eqb-false 83 10 refl z)
 
@@ -103,64 +98,64 @@ module _ (d : List ℕ) (l : Line d) (next place : ℕ) where
         by-type d 83 (λ e. omega (arith, not-empty d l)) l.short first
         ∙ passed-all (line_checks d) (taken (sequenced (payload d))) (eq-eqb (last d) 10 l.ends, (l.whole, tt))
 
-    pub message-refused : (n : ℕ) → n ≡ sequenced_fault next → (n ≡ 0 → ⊥) → unfit n (length d) next place ≡ closed d next place
-    unfolding closed
-    message-refused n e z =
-        let p = sequenced (payload d) in
-        by-test (eqb next 0)
-        (λ t. rw (early next d p is-sequenced refl (eqb-true next 0 t), e, t))
-        (λ t. by-test (eqb next (2 ^ 64 - 1))
-        (λ f. rw (past-last next d p is-sequenced refl (eqb-true next (2 ^ 64 - 1) f), e, t, f))
-        (λ f. absurd (z (e ∙ rw (t, f)))))
+    by-turn : judge next d ≡ r into λ _. taken (sequenced (payload d))
+    unfolding judge
+    by-turn = rw (is-sequenced, e) (sym (into-checked (turn_checks next counted) (taken tt) (λ _. taken (sequenced (payload d)))))
 
-    pub message-taken : next < 2 ^ 64 → 0 ≡ sequenced_fault next
-        → takes.Packet (Sequenced 1 (length d - 2)) (record { 0 = next }) (length d) place (empty_pieces false (next + 1))
-        ≡ closed d next place
-    unfolding closed judge
-    message-taken h e =
+    pub message-refused : (why : Refusal) → r ≡ refused why → refused why ≡ judge next d told_by judged_of next
+    message-refused why f = rw (by-turn, f)
+
+    pub message-taken : (u : Unit) → r ≡ taken u
+        → taken (record { packet = Sequenced 1 (length d - 2); number = Some (record { 0 = next }); next = record { 0 = next + 1 } })
+        ≡ judge next d told_by judged_of next
+    message-taken u f =
         let m : length (payload d) ≡ length d - 2 = length-take-le (length d - 2) (drop 1 d) (rw length-drop (omega (arith, two))) in
-        by-test (eqb next 0)
-        (λ t. let z : ◌≡◌ {A = ℕ} 0 16 = rw t at e in absurd (omega arith))
-        (λ t. by-test (eqb next (2 ^ 64 - 1))
-        (λ f. let z : ◌≡◌ {A = ℕ} 0 7 = rw (t, f) at e in absurd (omega arith))
-        (λ f. let g : next ≡ 2 ^ 64 - 1 → ⊥ = eqb-false next (2 ^ 64 - 1) f in
-        rw (is-sequenced, t, le-leb next (2 ^ 64 - 2) (omega arith), m, add-one)))
+        rw (by-turn, f, ne_eqb next 0 (one_more next r u e f).0, m, add-one)
 
   -- ---- any other, by the reader's answer
 
-  module _ (r : Reading) (e : r ≡ reading_of (read d)) where
-    pub unread-refused : (why : ℕ) → r ≡ Refused why → unfit why (length d) next place ≡ closed d next place
-    unfolding closed judge
-    unread-refused why k = by (read d) refl (sym e ∙ k) where
-      by : (v : Verdict Packet) → read d ≡ v → reading_of v ≡ Refused why → unfit why (length d) next place ≡ closed d next place
-      by (refused n) q z = let m : n ≡ why = cc in rw (q, m)
-      by (taken p) q z = absurd ((role-by-answer p).later (ap place_of z))
+  module _ (r : Verdict Reading) (e : r ≡ read d told_by packet_of) where
+    pub unread-refused : (why : Refusal) → r ≡ refused why → refused why ≡ judge next d told_by judged_of next
+    unread-refused why k = rw (reader-first next d why (told-refused (read d) packet_of why (sym e ∙ k)))
 
-    pub accept-taken : (session : Name) (number : Sequence) → r ≡ Accept session number → next ≡ 0
-        → unnumbered (Accept session number) (length d) number.0 place ≡ closed d next place
-    unfolding closed judge
-    accept-taken session number k n = by (read d) refl (sym e ∙ k) where
-      by : (v : Verdict Packet) → read d ≡ v → reading_of v ≡ Accept session number
-          → unnumbered (Accept session number) (length d) number.0 place ≡ closed d next place
-      by (refused m) q z = impossible cc
-      by (taken p) q z = let t = (role-by-answer p).accepted session number z in rw (q, t, eq-eqb next 0 n, t, z)
+    module _ (said : Reading) (s : r ≡ taken said) where
+      of : Told (read d) packet_of said
+      of = told (read d) packet_of said (sym e ∙ s)
 
-    -- a second one
-    pub accept-refused : (session : Name) (number : Sequence) → r ≡ Accept session number → (next ≡ 0 → ⊥)
-        → unfit 16 (length d) next place ≡ closed d next place
-    unfolding closed
-    accept-refused session number k n = by (read d) refl (sym e ∙ k) where
-      by : (v : Verdict Packet) → read d ≡ v → reading_of v ≡ Accept session number → unfit 16 (length d) next place ≡ closed d next place
-      by (refused m) q z = impossible cc
-      by (taken p) q z = rw (second next d p q number.0 ((role-by-answer p).accepted session number z) n)
+      module _ (session : Name) (number : Sequence) (k : said ≡ Accept session number) where
+        begins-there : role_of of.by ≡ begins number.0
+        begins-there = (role-by-answer of.by).accepted session number (of.gave ∙ k)
 
-    pub other-taken : Bytes d → (get_or d 0 0 ≡ 83 → ⊥) → ((n : ℕ) → r ≡ Refused n → ⊥) → Other r → unnumbered r (length d) next place
-        ≡ closed d next place
-    unfolding closed judge
-    other-taken b f h k = by (read d) refl where
-      by : (v : Verdict Packet) → read d ≡ v → unnumbered r (length d) next place ≡ closed d next place
-      by (refused n) q = absurd (h n (rw (e, q)))
-      by (taken p) q =
-          let s : get_or (write p) 0 0 ≡ 83 → ⊥ = rw ((read-is-written d p b q).1, same-type d) f in
-          let t = (role-by-answer p).other (rw (e, q) at k) s in
-          rw (q, t, t, e, q)
+        pub accept-taken : next ≡ 0
+            → taken (record { packet = Accept session number; number = None; next = number }) ≡ judge next d told_by judged_of next
+        unfolding judge of
+        accept-taken n = rw (of.was, begins-there, n, begins-there, of.gave, k)
+
+        -- a second one
+        pub accept-refused : (next ≡ 0 → ⊥) → refused NotForRecord ≡ judge next d told_by judged_of next
+        accept-refused n = rw (second next d of.by of.was number.0 begins-there n)
+
+      pub other-taken : Bytes d → (get_or d 0 0 ≡ 83 → ⊥) → Other said
+          → taken (record { packet = said; number = None; next = record { 0 = next } }) ≡ judge next d told_by judged_of next
+      unfolding judge
+      other-taken b f k =
+          let s : get_or (write of.by) 0 0 ≡ 83 → ⊥ = rw ((read-is-written d of.by b of.was).1, same-type d) f in
+          let t = (role-by-answer of.by).other (rw of.gave k) s in
+          rw (of.was, t, t, of.gave)
+
+-- ---- what is answered of a line that was judged
+
+module _ (d : List ℕ) (next place : ℕ) where
+  pub closed-taken : (j : Judged) → judge next d told_by judged_of next ≡ taken j
+      → takes.Packet j.packet j.number (length d) place (empty_pieces false j.next.0) ≡ closed d next place
+  unfolding closed
+  closed-taken j = by (judge next d) where
+    by : (v : Verdict Packet) → v told_by judged_of next ≡ taken j
+        → takes.Packet j.packet j.number (length d) place (empty_pieces false j.next.0) ≡ closed_of next d place v
+    by (refused why) e = not-both (refused why) why j refl e
+    by (taken p) e = let q : judged_of next p ≡ j = taken-same (judged_of next p) j e in rw (← q)
+
+  pub closed-refused : (why : Refusal) → judge next d told_by judged_of next ≡ refused why
+      → takes.Unfit why (length d) place (empty_pieces false next) ≡ closed d next place
+  unfolding closed
+  closed-refused why e = rw (told-refused (judge next d) (judged_of next) why e)

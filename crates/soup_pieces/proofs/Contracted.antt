@@ -10,9 +10,10 @@ use contract.Lifetimes.{Lfts}
 use denote.Ref.{Bor}
 use denote.MutBor.{MutBor}
 use denote.Triple.Clauses.{AtExit}
+use Rattle.wire.specs.Checks.{Verdict, refused}
+use Rattle.wire.specs.declared.refusal.Refusal.{Refusal}
 use Rattle.soup_pieces.specs.Calling.{Lent, machine_in, Entry, Permitted, Seen, Underway, Feeds, joined}
 use Rattle.soup_pieces.specs.declared.Taken.{Taken}
-use Rattle.soup_pieces.specs.declared.Taken.TheVariants as takes
 use Rattle.soup_pieces.proofs.Callers.{Ready, never-refused, Eaten-up, feeds-eat, cut-anywhere, calls-are-few, feeding-ends}
 use Rattle.soup_pieces.proofs.take.Kinds as take
 use Rattle.soup_pieces.proofs.take.Reads as take-reads
@@ -30,7 +31,7 @@ Ensured l piece place r left =
     × (e.1.0.now ≡ left)
     × take-reads.Post κs a r e
 
-pub ensured-permitted : (l : Lent) (piece : List ℕ) (place : ℕ) (r : Taken) (left : List ℕ) → Ensured l piece place r left
+pub ensured-permitted : (l : Lent) (piece : List ℕ) (place : ℕ) (r : Verdict Taken) (left : List ℕ) → Ensured l piece place r left
     → Permitted l piece place r left
 ensured-permitted l piece place r left x = rw (← x.3, ← x.4, ← x.5, ← x.6, ← x.7) x.8
 
@@ -42,7 +43,7 @@ abbrev lends : List ℕ → MutBor (List ℕ)
 lends s = record { ref_ptr = (0, 0); ghost_name = 0; now = s }
 
 -- and whatever is permitted, the contract ensures of some arguments
-pub permitted-ensured : (l : Lent) (piece : List ℕ) (place : ℕ) (r : Taken) (left : List ℕ) → Permitted l piece place r left
+pub permitted-ensured : (l : Lent) (piece : List ℕ) (place : ℕ) (r : Verdict Taken) (left : List ℕ) → Permitted l piece place r left
     → Ensured l piece place r left
 permitted-ensured l piece place r left a = (
   ([], ([], tt)),
@@ -73,9 +74,9 @@ cut-elsewhere = cut-anywhere Ensured ensured-permitted
 -- ---- calling comes to an end
 
 -- from a state that hangs together no call inside the piece is refused
-pub not-refused : (l : Lent) (piece : List ℕ) (place n : ℕ) (left : List ℕ) → Ready l → place ≤ length piece
-    → Ensured l piece place (takes.Refused n) left → ⊥
-not-refused l piece place n left h p a = never-refused l piece place n left h p (ensured-permitted l piece place (takes.Refused n) left a)
+pub not-refused : (l : Lent) (piece : List ℕ) (place : ℕ) (why : Refusal) (left : List ℕ) → Ready l → place ≤ length piece
+    → Ensured l piece place (refused why) left → ⊥
+not-refused l piece place why left h p a = never-refused l piece place why left h p (ensured-permitted l piece place (refused why) left a)
 
 -- whatever the answers are: so many calls that none of them has used the piece up are no more than the bytes that were left of it, so that
 -- the one behind them, at the latest, uses it up

@@ -8,6 +8,7 @@ use native.Mathlib.Omega.{arith}
 use lib.ListN.{length}
 use borrow.Author.Tests.{eqb-true, eqb-false, leb-true, not-true}
 use Rattle.wire.specs.Checks.{Passed, ◌is◌, taken}
+use Rattle.wire.specs.declared.refusal.Refusal.{Refusal}
 use Rattle.wire.proofs.Tests.{impossible}
 use Rattle.soup.specs.Packet.{Packet}
 use Rattle.soup.specs.Read.{read}
@@ -75,7 +76,7 @@ none_before s b d p number z e r = by (eat s b) (eats.eats s b) e where
   by x (eats.overlong _ _ l) e = impossible cc
 
 -- a refused packet is used up, and leaves the number alone
-pub refusal-leaves : (s : Machine) (b : ℕ) (d : List ℕ) (why : ℕ) → (eat s b).fate ≡ gives (refusal d why)
+pub refusal-leaves : (s : Machine) (b : ℕ) (d : List ℕ) (why : Refusal) → (eat s b).fate ≡ gives (refusal d why)
     → ((eat s b).machine.kept ≡ []) × ((eat s b).machine.next ≡ s.next)
 refusal-leaves s b d why e = by (eat s b) (eats.eats s b) e where
   by : (x : Eaten) → eats.Eats s b x → x.fate ≡ gives (refusal d why) → (x.machine.kept ≡ []) × (x.machine.next ≡ s.next)

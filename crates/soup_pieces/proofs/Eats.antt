@@ -8,6 +8,8 @@ use lib.Dec.{eqb}
 use lib.ListN.{length}
 use borrow.Author.Tests.{eqb-true, eqb-false}
 use Rattle.wire.specs.Checks.{◌is◌, Verdict, refused, taken}
+use Rattle.wire.specs.declared.refusal.Refusal.{Refusal}
+use Rattle.wire.specs.declared.refusal.Refusal.TheVariants.{Overlong}
 use Rattle.wire.proofs.Tests.{by-test}
 use Rattle.soup.specs.Packet.{Packet}
 use Rattle.soup_pieces.specs.Machine.{Machine, packet, refusal, keeps, drops, gives, Eaten, role_of, number_of, next_after, judge, empty}
@@ -27,10 +29,10 @@ module _ (s : Machine) (b : ℕ) where
           fate = gives (packet gathered p (number_of s.next (role_of p)));
           machine = empty false (next_after s.next (role_of p));
         })
-    unfit : s.dropping ≡ false → b ≡ 10 → (why : ℕ) → judge s.next gathered ≡ refused why
+    unfit : s.dropping ≡ false → b ≡ 10 → (why : Refusal) → judge s.next gathered ≡ refused why
         → Eats (record { fate = gives (refusal gathered why); machine = empty false s.next })
     overlong : s.dropping ≡ false → (b ≡ 10 → ⊥) → length gathered ≡ 4098
-        → Eats (record { fate = gives (refusal gathered 2); machine = empty true s.next })
+        → Eats (record { fate = gives (refusal gathered Overlong); machine = empty true s.next })
 
   drop-is : s.dropping ≡ true → eat s b ≡ record { fate = drops b; machine = empty (not (b is 10)) s.next }
   unfolding eat
@@ -41,7 +43,7 @@ module _ (s : Machine) (b : ℕ) where
   line-is d t = rw (d, t)
 
   overlong-is : s.dropping ≡ false → eqb b 10 ≡ false → eqb (length gathered) 4098 ≡ true
-      → eat s b ≡ record { fate = gives (refusal gathered 2); machine = empty true s.next }
+      → eat s b ≡ record { fate = gives (refusal gathered Overlong); machine = empty true s.next }
   unfolding eat
   overlong-is d t f = rw (d, t, f)
 

@@ -10,12 +10,14 @@ use lib.ListN.{length, get_or, take, drop, length-append, length-drop}
 use lib.Seq.{sets, sets-eq, length-take-le, take_at, take-take, take_all, take-suc, get_or-take, split_at}
 use Rattle.soup_pieces.specs.Searching.{slice, index_of}
 use Rattle.wire.specs.Checks.{Verdict, refused, taken}
+use Rattle.wire.specs.declared.refusal.Refusal.TheVariants.{Overlong}
 use Rattle.soup.specs.Packet.{Packet}
 use Rattle.soup.specs.Read.{unbroken}
 use Rattle.soup.proofs.Linefeed.{append-unbroken}
 use Rattle.soup_pieces.specs.Machine.{refusal, empty, used_up, given, judge, first}
 use Rattle.soup_pieces.specs.Eating.{returned, at_start, Returned}
 use Rattle.soup_pieces.specs.Closing.{Line, empty_pieces, closed_of, closed}
+use Rattle.soup_pieces.specs.declared.Taken.{Taken}
 use Rattle.soup_pieces.specs.declared.Taken.TheVariants as takes
 use Rattle.soup_pieces.proofs.Stretches.{first-none, holding, line_given, kept_on, closes, overruns}
 use Rattle.soup_pieces.proofs.Searches.{parts_none, unbroken-before, linefeed-there, part-is}
@@ -23,7 +25,7 @@ use Rattle.soup_pieces.proofs.Closes.{ends-line}
 
 -- the answer to a line that is handed out
 line-answered : (next : ℕ) (piece d left : List ℕ) (place : ℕ) (v : Verdict Packet) → place ≡ length piece - length left
-    → closed_of next d place v ≡ returned piece (taken (line_given next d left v))
+    → closed_of next d place v ≡ returned piece (line_given next d left v)
 line-answered next piece d left place (refused why) e = rw e
 line-answered next piece d left place (taken p) e = rw e
 
@@ -74,7 +76,7 @@ module _ (buffer piece : List ℕ) (kept from next : ℕ) (few : kept ≤ 4097) 
 
     -- the bytes up to it are a line, which is handed out or refused
     pub line-ends : (place : ℕ) → place ≡ from + suc j
-        → Returned (taken (first (holding next K) w)) buffer piece (closed (K ++ take (suc j) w) next place) (copied (suc j))
+        → Returned (taken (first (holding next K) w)) buffer piece (taken (closed (K ++ take (suc j) w) next place)) (copied (suc j))
     unfolding closed
     line-ends place p =
         let d = K ++ take (suc j) w in
@@ -86,7 +88,7 @@ module _ (buffer piece : List ℕ) (kept from next : ℕ) (few : kept ≤ 4097) 
         ap (first (holding next K)) split ∙ closes next K (take j w) left u short ∙ rw (← line-is) in
         let l : length left ≡ length w - suc j = length-drop (suc j) w in
         record {
-          answer = rw goes (line-answered next piece d left place v (omega (arith, length-w)));
+          answer = rw goes (ap (λ (t : Taken). taken t) (line-answered next piece d left place v (omega (arith, length-w))));
           bytes = rw (goes, line-at-start next d left v) (copied_is (suc j) (omega arith) (omega arith));
         }
 
@@ -94,7 +96,7 @@ module _ (buffer piece : List ℕ) (kept from next : ℕ) (few : kept ≤ 4097) 
 
   pub piece-ends : unbroken w ≡ true → kept + length w ≤ 4097
       → Returned (taken (first (holding next K) w)) buffer piece
-      (takes.UsedUp (record { kept = kept + length w; dropping = false; next = record { 0 = next } })) (copied (length w))
+      (taken (takes.UsedUp (record { kept = kept + length w; dropping = false; next = record { 0 = next } }))) (copied (length w))
   unfolding first
   piece-ends u s =
       let goes : first (holding next K) w ≡ used_up (holding next (K ++ w)) =
@@ -106,7 +108,7 @@ module _ (buffer piece : List ℕ) (kept from next : ℕ) (few : kept ≤ 4097) 
   -- ---- no linefeed up to the 4,098th byte
 
   pub overruns-there : (m : ℕ) → kept + m ≡ 4097 → m < length w → unbroken (take (suc m) w) ≡ true → (place : ℕ) → place ≡ from + suc m
-      → Returned (taken (first (holding next K) w)) buffer piece (takes.Unfit 2 4098 place (empty_pieces true next)) (copied (suc m))
+      → Returned (taken (first (holding next K) w)) buffer piece (taken (takes.Unfit Overlong 4098 place (empty_pieces true next))) (copied (suc m))
   overruns-there m e h u place p =
       let b = get_or w m 0 in
       let left = drop (suc m) w in
@@ -114,7 +116,7 @@ module _ (buffer piece : List ℕ) (kept from next : ℕ) (few : kept ≤ 4097) 
       let us = parts_none (take m w) (b ∷ []) (rw t at u) in
       let d : K ++ take m w ++ b ∷ [] ≡ K ++ take (suc m) w = rw (t, append_assoc K (take m w) (b ∷ [])) in
       let full : length K + length (take m w) ≡ 4097 = omega (arith, length-K, length-take-le m w (omega arith)) in
-      let goes : first (holding next K) w ≡ given (refusal (K ++ take (suc m) w) 2) (empty true next) left =
+      let goes : first (holding next K) w ≡ given (refusal (K ++ take (suc m) w) Overlong) (empty true next) left =
       ap (first (holding next K)) (split_at w m 0 h) ∙ overruns next K (take m w) left b us.0 (first-none b [] us.1) full ∙ rw d in
       let n : length (K ++ take (suc m) w) ≡ 4098 = length-stands (suc m) h (omega arith) ∙ omega arith in
       let l : length left ≡ length w - suc m = length-drop (suc m) w in
@@ -160,7 +162,7 @@ module _ (buffer piece : List ℕ) (kept from next : ℕ) (few : kept ≤ 4097) 
       found-line = rw front (is-line j (omega (arith, near, length-w)) before here (omega (arith, near)))
 
       pub answers-line : Returned (taken (first (holding next K) w)) buffer piece
-          (closed (take (kept + size) (copied size)) next (found + 1)) (copied size)
+          (taken (closed (take (kept + size) (copied size)) next (found + 1))) (copied size)
       answers-line =
           let ends = line-ends j (omega (arith, near, length-w)) before here (omega (arith, near)) in
           rw (front, size_is) (ends (found + 1) (omega (arith, at_j)))
@@ -171,7 +173,7 @@ module _ (buffer piece : List ℕ) (kept from next : ℕ) (few : kept ≤ 4097) 
 
       pub answers-end : length piece - from < 4098 - kept
           → Returned (taken (first (holding next K) w)) buffer piece
-          (takes.UsedUp (record { kept = kept + most; dropping = false; next = record { 0 = next } })) (copied most)
+          (taken (takes.UsedUp (record { kept = kept + most; dropping = false; next = record { 0 = next } }))) (copied most)
       answers-end s =
           let e : most ≡ length w = omega (arith, length-w) in
           let u : unbroken w ≡ true = rw (e, take_all (length w) w (omega arith)) at all-before in
@@ -179,7 +181,7 @@ module _ (buffer piece : List ℕ) (kept from next : ℕ) (few : kept ≤ 4097) 
 
       pub answers-overlong : 4098 - kept ≤ length piece - from
           → Returned (taken (first (holding next K) w)) buffer piece
-          (takes.Unfit 2 4098 (from + most) (empty_pieces true next)) (copied most)
+          (taken (takes.Unfit Overlong 4098 (from + most) (empty_pieces true next))) (copied most)
       answers-overlong s =
           let e : most ≡ suc (4097 - kept) = omega arith in
           rw e (overruns-there (4097 - kept) (omega arith) (omega (arith, length-w)) (rw e at all-before) (from + suc (4097 - kept)) refl)

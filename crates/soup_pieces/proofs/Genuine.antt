@@ -11,6 +11,8 @@ use lib.ListN.{length, length-append}
 use lib.Seq.{get_or_at}
 use borrow.Author.Tests.{eqb-true, eqb-false, leb-false}
 use Rattle.wire.specs.Checks.{Verdict, refused, taken, checked, Passed}
+use Rattle.wire.specs.declared.refusal.Refusal.{Refusal}
+use Rattle.wire.specs.declared.refusal.Refusal.TheVariants.{Overlong, Bound, NotForRecord}
 use Rattle.wire.proofs.Checks.{went, all-passed, taken-same}
 use Rattle.wire.proofs.Tests.{by-test, impossible}
 use Rattle.soup.specs.Packet.{Packet, debug, accept, reject, sequenced, server_heartbeat, end_of_session, login, unsequenced}
@@ -33,33 +35,33 @@ judged next d p e =
 
 -- ---- why a packet is refused, where the next S would have the number `next`, 0 before Login Accepted
 
-pub data Why (next : ℕ) (d : List ℕ) : (why : ℕ) → Type 0 where
+pub data Why (next : ℕ) (d : List ℕ) : (why : Refusal) → Type 0 where
   -- the reader refuses these very bytes under this number
-  unread : (why : ℕ) → read d ≡ refused why → Why next d why
+  unread : (why : Refusal) → read d ≡ refused why → Why next d why
   -- an S, and there was no Login Accepted
-  early : (message : List ℕ) → read d ≡ taken (sequenced message) → next ≡ 0 → Why next d 16
+  early : (message : List ℕ) → read d ≡ taken (sequenced message) → next ≡ 0 → Why next d NotForRecord
   -- a second Login Accepted
-  second : (session : List ℕ) (number : ℕ) → read d ≡ taken (accept session number) → 1 ≤ next → Why next d 16
+  second : (session : List ℕ) (number : ℕ) → read d ≡ taken (accept session number) → 1 ≤ next → Why next d NotForRecord
   -- an S whose number would be 2^64-1, and not more: `Counting` shows that it is below 2^64
-  past-last : (message : List ℕ) → read d ≡ taken (sequenced message) → 2 ^ 64 - 1 ≤ next → Why next d 7
+  past-last : (message : List ℕ) → read d ≡ taken (sequenced message) → 2 ^ 64 - 1 ≤ next → Why next d Bound
   -- 4,098 bytes, and the last is no linefeed; nor is any before it: `Overlong`
-  overlong : length d ≡ line_limit → (last d ≡ 10 → ⊥) → Why next d 2
+  overlong : length d ≡ line_limit → (last d ≡ 10 → ⊥) → Why next d Overlong
 
-module _ (next : ℕ) (d : List ℕ) (why : ℕ) where
+module _ (next : ℕ) (d : List ℕ) (why : Refusal) where
   -- a packet that the reader takes, by its checks
   out-of-turn : (p : Packet) → read d ≡ taken p → checked (turn_checks next (role_of p)) (taken p) ≡ refused why → Why next d why
   out-of-turn (sequenced message) q e =
       by-test (eqb next 0)
-      (λ t. let n : 16 ≡ why = cc (rw t at e) in rw (← n) (early message q (eqb-true next 0 t)))
+      (λ t. let n : NotForRecord ≡ why = cc (rw t at e) in rw (← n) (early message q (eqb-true next 0 t)))
       (λ t. by-test (leb next (2 ^ 64 - 2))
       (λ u. impossible (cc (rw (t, u) at e)))
-      (λ u. let n : 7 ≡ why = cc (rw (t, u) at e) in
+      (λ u. let n : Bound ≡ why = cc (rw (t, u) at e) in
       let m = leb-false next (2 ^ 64 - 2) u in
       rw (← n) (past-last message q (omega arith))))
   out-of-turn (accept session number) q e =
       by-test (eqb next 0)
       (λ t. impossible (cc (rw t at e)))
-      (λ t. let n : 16 ≡ why = cc (rw t at e) in
+      (λ t. let n : NotForRecord ≡ why = cc (rw t at e) in
       rw (← n) (second session number q (pos_of_ne-zero (eqb-false next 0 t))))
   out-of-turn (debug text) q e = impossible cc
   out-of-turn (reject reason) q e = impossible cc

@@ -1,12 +1,13 @@
 pub mod Stretches
 pub mod Searches
-pub mod Closes
 pub mod TakenLines
 pub mod Ready
 pub mod Gathers
 pub mod Takes
 pub mod Eats
 pub mod Turns
+pub mod Order
+pub mod Closes
 pub mod Genuine
 pub mod Cutting
 pub mod Whole
@@ -14,7 +15,6 @@ pub mod Reaching
 pub mod Callers
 pub mod Contracted
 mod Settled
-pub mod Order
 pub mod Overlong
 pub mod Counting
 pub mod Streams

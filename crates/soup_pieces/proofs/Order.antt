@@ -5,6 +5,7 @@ use mathlib.Core.Path.{◌≡◌, refl}
 use mathlib.Core.Bool.{true, false}
 use mathlib.Core.List.{List, [], ◌∷◌}
 use Rattle.wire.specs.Checks.{refused, in_order}
+use Rattle.wire.specs.declared.refusal.Refusal.{Refusal}
 use Rattle.wire.specs.declared.refusal.Refusal.TheVariants.{Broken}
 use Rattle.soup.specs.Read.{read}
 use Rattle.soup_pieces.specs.Machine.{Role, begins, counted, neither, turn_checks, judge}
@@ -26,6 +27,6 @@ turn-order next (begins number) = refl
 turn-order next counted = refl
 turn-order next neither = refl
 
-pub reader-first : (next : ℕ) (d : List ℕ) (n : ℕ) → read d ≡ refused n → judge next d ≡ refused n
+pub reader-first : (next : ℕ) (d : List ℕ) (why : Refusal) → read d ≡ refused why → judge next d ≡ refused why
 unfolding judge
-reader-first next d n e = rw e
+reader-first next d why e = rw e

@@ -7,6 +7,8 @@ use mathlib.Core.List.{List, [], ◌∷◌, ◌++◌, append-nil}
 use mathlib.Core.Bool.{true, false}
 use native.Mathlib.Omega.{arith}
 use lib.ListN.{length}
+use Rattle.wire.specs.declared.refusal.Refusal.{Refusal}
+use Rattle.wire.specs.declared.refusal.Refusal.TheVariants.{Overlong}
 use Rattle.wire.proofs.Tests.{impossible}
 use Rattle.soup.specs.Read.{unbroken}
 use Rattle.soup.proofs.Linefeed.{more, append-unbroken}
@@ -28,7 +30,7 @@ module _ (next : ℕ) where
 
   -- the 4,098th is refused with them
   pub at-that-byte : (t : List ℕ) (b : ℕ) → unbroken t ≡ true → length t ≡ 4097 → (b ≡ 10 → ⊥)
-      → (yielded (fates (empty false next) (t ++ b ∷ [])) ≡ refusal (t ++ b ∷ []) 2 ∷ [])
+      → (yielded (fates (empty false next) (t ++ b ∷ [])) ≡ refusal (t ++ b ∷ []) Overlong ∷ [])
       × (fed (empty false next) (t ++ b ∷ []) ≡ empty true next)
   unfolding fates fed yielded
   at-that-byte t b u l n = first-given (empty false next) (t ++ b ∷ []) _ (empty true next) [] (overruns next [] t [] b u n (omega arith))
@@ -41,7 +43,7 @@ module _ (next : ℕ) where
 
   -- so of all of it nothing but that refusal is handed out, and then the desk is as before it
   pub refused-once : (t r : List ℕ) (b : ℕ) → unbroken t ≡ true → length t ≡ 4097 → (b ≡ 10 → ⊥) → unbroken r ≡ true
-      → (yielded (fates (empty false next) (t ++ b ∷ [] ++ (r ++ 10 ∷ []))) ≡ refusal (t ++ b ∷ []) 2 ∷ [])
+      → (yielded (fates (empty false next) (t ++ b ∷ [] ++ (r ++ 10 ∷ []))) ≡ refusal (t ++ b ∷ []) Overlong ∷ [])
       × (fed (empty false next) (t ++ b ∷ [] ++ (r ++ 10 ∷ [])) ≡ empty false next)
   refused-once t r b u l n v =
       let d = t ++ b ∷ [] in
@@ -52,7 +54,7 @@ module _ (next : ℕ) where
       )
 
 -- none of the bytes that are refused at a byte other than a linefeed is one, from a state that is sound
-pub none-among : (s : Machine) (b : ℕ) (d : List ℕ) (why : ℕ) → Sound s → (b ≡ 10 → ⊥) → (eat s b).fate ≡ gives (refusal d why)
+pub none-among : (s : Machine) (b : ℕ) (d : List ℕ) (why : Refusal) → Sound s → (b ≡ 10 → ⊥) → (eat s b).fate ≡ gives (refusal d why)
     → unbroken d ≡ true
 unfolding unbroken
 none-among s b d why i n e = by (eat s b) (eats.eats s b) e where

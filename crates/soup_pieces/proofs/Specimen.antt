@@ -6,6 +6,7 @@ use mathlib.Core.Path.{◌≡◌, refl}
 use mathlib.Core.List.{List, [], ◌∷◌, ◌++◌}
 use mathlib.Core.Bool.{false}
 use lib.ListN.{replicate}
+use Rattle.wire.specs.declared.refusal.Refusal.TheVariants.{NotForRecord}
 use Rattle.text.specs.Text.{letter_or_digit, blank, text, spaces_then_text}
 use Rattle.decimal.specs.Decimal.{digit, digits, trimmed, well_formed, spelt, value_of}
 use Rattle.soup.specs.Packet.{accept, sequenced, server_heartbeat, line}
@@ -31,11 +32,11 @@ abbrev offered : List ℕ
 offered = message ++ accepted ++ message ++ beat ++ accepted ++ message ++ 83 ∷ []
 
 pub comes-out : yielded (fates (empty false 0) offered)
-    ≡ refusal message 16
+    ≡ refusal message NotForRecord
     ∷ packet accepted (accept session 1) 0
     ∷ packet message (sequenced (72 ∷ 73 ∷ [])) 1
     ∷ packet beat server_heartbeat 0
-    ∷ refusal accepted 16
+    ∷ refusal accepted NotForRecord
     ∷ packet message (sequenced (72 ∷ 73 ∷ [])) 2
     ∷ []
 unfolding fates yielded eat judge read accept_of unbroken spaces_then_text text letter_or_digit blank well_formed value_of trimmed digits

@@ -10,6 +10,7 @@ use lib.Dec.{eqb}
 use lib.ListN.{length, length-append}
 use borrow.Author.Tests.{ne_eqb, eq-eqb, eqb-false, not-true}
 use Rattle.wire.specs.Checks.{Verdict, refused, taken}
+use Rattle.wire.specs.declared.refusal.Refusal.TheVariants.{Overlong}
 use Rattle.wire.proofs.Tests.{and_left, and_right}
 use Rattle.soup.specs.Packet.{Packet}
 use Rattle.soup.specs.Read.{unbroken}
@@ -41,7 +42,7 @@ module _ (next : ℕ) where
     eat-kept n h = rw (ne_eqb b 10 n, ne_eqb (length (k ++ b ∷ [])) 4098 (λ e. omega (arith, one_more)))
 
     eat-overlong : (b ≡ 10 → ⊥) → length k ≡ 4097
-        → eat (holding k) b ≡ record { fate = gives (refusal (k ++ b ∷ []) 2); machine = empty true next }
+        → eat (holding k) b ≡ record { fate = gives (refusal (k ++ b ∷ []) Overlong); machine = empty true next }
     unfolding eat
     eat-overlong n h = rw (ne_eqb b 10 n, eq-eqb (length (k ++ b ∷ [])) 4098 (omega (arith, one_more)))
 
@@ -77,7 +78,7 @@ module _ (next : ℕ) where
 
   -- one whose last byte is the 4,098th
   pub overruns : (k t bs : List ℕ) (b : ℕ) → unbroken t ≡ true → (b ≡ 10 → ⊥) → length k + length t ≡ 4097
-      → first (holding k) (t ++ b ∷ bs) ≡ given (refusal (k ++ t ++ b ∷ []) 2) (empty true next) bs
+      → first (holding k) (t ++ b ∷ bs) ≡ given (refusal (k ++ t ++ b ∷ []) Overlong) (empty true next) bs
   unfolding first
   overruns k t bs b u n h =
       kept_on k t (b ∷ bs) u (omega arith) ∙ rw (eat-overlong (k ++ t) b n (simp length-append (omega arith)))

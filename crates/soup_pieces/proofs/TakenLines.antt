@@ -8,6 +8,7 @@ use native.Mathlib.Omega.{arith}
 use lib.ListN.{length, get_or}
 use borrow.Author.Tests.{eqb-true, leb-true}
 use Rattle.wire.specs.Checks.{Verdict, taken, checked, Check, Passed}
+use Rattle.wire.specs.declared.refusal.Refusal.TheVariants.{UnknownType}
 use Rattle.wire.proofs.Checks.{all-passed, taken-same, not-both}
 use Rattle.wire.proofs.Tests.{impossible}
 use Rattle.decimal.specs.Decimal.{value_of}
@@ -47,7 +48,7 @@ module _ (d : List ℕ) (p : Packet) where
   sized : (n : ℕ) (v : Verdict Packet) → (v ≡ taken p → BeginsLow p) → checked (sized_checks n d) v ≡ taken p → Takes
   sized n v low e = let r = all-passed (sized_checks n d) v p e in record { lined = r.0.1; low = low r.1 }
 
-  bare : (a : Packet) → BeginsLow a → taken a ≡ taken p → BeginsLow p
+  bare : (a : Packet) → BeginsLow a → ◌≡◌ {A = Verdict Packet} (taken a) (taken p) → BeginsLow p
   bare a low e = rw (← taken-same a p e) low
 
   accepted : (session number : List ℕ) → accept_of session number ≡ taken p → BeginsLow p
@@ -83,7 +84,7 @@ module _ (d : List ℕ) (p : Packet) where
         client_heartbeat = sized 2 _ (bare _ uncounted);
         logout = sized 2 _ (bare _ uncounted);
       })
-      (λ u. not-both (by_type kind d) 3 p (unknown-is-3 kind d u))
+      (λ u. not-both (by_type kind d) UnknownType p (unknown-is-3 kind d u))
 
   module _ (e : read d ≡ taken p) where
     opened : Passed (opening d) × (by_type (get_or d 0 0) d ≡ taken p)

@@ -9,7 +9,7 @@ use lib.ListN.{length, take, drop, length-drop}
 use lib.Seq.{take_all, take-length, split_at, drop-drop}
 use borrow.Author.Tests.{le-leb, lt-leb}
 use Rattle.soup_pieces.specs.Searching.{slice, index_of}
-use Rattle.wire.specs.Checks.{taken}
+use Rattle.wire.specs.Checks.{refused, taken}
 use Rattle.wire.specs.declared.refusal.Refusal.TheVariants.{Framing, Broken}
 use Rattle.soup.specs.Read.{unbroken}
 use Rattle.soup_pieces.specs.Machine.{empty, used_up, first}
@@ -21,12 +21,12 @@ use Rattle.soup_pieces.proofs.Searches.{unbroken-before, linefeed-there}
 use Rattle.soup_pieces.proofs.Ready.{Readiness, ready-says}
 
 module _ (pieces : Pieces) (buffer piece : List ℕ) (place : ℕ) where
-  pub broken : ready pieces buffer ≡ false → Returned (eating pieces buffer piece place) buffer piece (takes.Refused Broken) buffer
+  pub broken : ready pieces buffer ≡ false → Returned (eating pieces buffer piece place) buffer piece (refused Broken) buffer
   unfolding eating
   broken h = record { answer = rw h; bytes = rw h }
 
   module _ (h : ready pieces buffer ≡ true) where
-    pub past_end : length piece < place → Returned (eating pieces buffer piece place) buffer piece (takes.Refused Framing) buffer
+    pub past_end : length piece < place → Returned (eating pieces buffer piece place) buffer piece (refused Framing) buffer
     unfolding eating
     past_end p = let t = lt-leb place (length piece) p in record { answer = rw (h, t); bytes = rw (h, t) }
 
@@ -65,14 +65,14 @@ module _ (pieces : Pieces) (buffer piece : List ℕ) (place : ℕ) where
           length-w : length w ≡ length piece - place
           length-w = length-drop place piece
 
-          pub all-dropped : found ≡ length piece → Returned (eating pieces buffer piece place) buffer piece (takes.UsedUp pieces) buffer
+          pub all-dropped : found ≡ length piece → Returned (eating pieces buffer piece place) buffer piece (taken (takes.UsedUp pieces)) buffer
           unfolding first
           all-dropped e =
               let u : unbroken w ≡ true = rw (take_all (index_of 10 w) w (omega (arith, at-w, length-w))) at (unbroken-before w) in
               let t = empty true pieces.next.0 in
               let goes : first t w ≡ used_up t = ap (first t) (sym (append-nil w)) ∙ drops-on pieces.next.0 w [] u in
               record {
-                answer = rw (goes_on, dropping-machine, goes) (ap takes.UsedUp dropping-pieces);
+                answer = rw (goes_on, dropping-machine, goes) (ap (λ (p : Pieces). taken (takes.UsedUp p)) dropping-pieces);
                 bytes = rw (goes_on, dropping-machine, goes);
               }
 

@@ -8,6 +8,7 @@ use mathlib.Core.Bool.{false}
 use native.Mathlib.Omega.{arith}
 use borrow.Author.Tests.{ne_eqb}
 use Rattle.wire.specs.Checks.{refused, taken}
+use Rattle.wire.specs.declared.refusal.Refusal.{Refusal}
 use Rattle.wire.specs.declared.refusal.Refusal.TheVariants.{Bound, NotForRecord}
 use Rattle.soup.specs.Packet.{Packet, accept, sequenced}
 use Rattle.soup.specs.Read.{read}
@@ -33,20 +34,20 @@ module _ (next : ℕ) (d : List ℕ) (p : Packet) (e : read d ≡ taken p) where
 
 module _ (s : Machine) (listening : s.dropping ≡ false) where
   -- the packet that it ends is refused under this number, and the count stays
-  abbrev pub Refuses : (why : ℕ) → Type 0
+  abbrev pub Refuses : (why : Refusal) → Type 0
   Refuses why = eat s 10 ≡ record { fate = gives (refusal (gathered s 10) why); machine = empty false s.next }
 
-  turned-away : (why : ℕ) → judge s.next (gathered s 10) ≡ refused why → Refuses why
+  turned-away : (why : Refusal) → judge s.next (gathered s 10) ≡ refused why → Refuses why
   unfolding eat
   turned-away why e = rw (listening, e)
 
   module _ (message : List ℕ) (e : read (gathered s 10) ≡ taken (sequenced message)) where
-    pub early-message : s.next ≡ 0 → Refuses 16
-    early-message z = turned-away 16 (early s.next (gathered s 10) (sequenced message) e refl z)
+    pub early-message : s.next ≡ 0 → Refuses NotForRecord
+    early-message z = turned-away NotForRecord (early s.next (gathered s 10) (sequenced message) e refl z)
 
-    pub message-past-last : s.next ≡ 2 ^ 64 - 1 → Refuses 7
-    message-past-last z = turned-away 7 (past-last s.next (gathered s 10) (sequenced message) e refl z)
+    pub message-past-last : s.next ≡ 2 ^ 64 - 1 → Refuses Bound
+    message-past-last z = turned-away Bound (past-last s.next (gathered s 10) (sequenced message) e refl z)
 
-  pub second-accept : (session : List ℕ) (number : ℕ) → read (gathered s 10) ≡ taken (accept session number) → 1 ≤ s.next → Refuses 16
+  pub second-accept : (session : List ℕ) (number : ℕ) → read (gathered s 10) ≡ taken (accept session number) → 1 ≤ s.next → Refuses NotForRecord
   second-accept session number e h =
-      turned-away 16 (second s.next (gathered s 10) (accept session number) e number refl (λ z. omega arith))
+      turned-away NotForRecord (second s.next (gathered s 10) (accept session number) e number refl (λ z. omega arith))

@@ -1,6 +1,8 @@
 -- What a caller is handed who feeds one piece after another and calls until each is used up, whatever the entry's contract allows.
 -- Assumes nothing.
-use Rattle.std.specs.Prelude.{ℕ, suc, List, [], ◌∷◌, ◌++◌, take}
+use Rattle.std.specs.Prelude.{ℕ, suc, List, [], ◌∷◌, ◌++◌, take, Option, None, Some}
+use Rattle.wire.specs.Checks.{Verdict, taken}
+use Rattle.wire.specs.declared.refusal.Refusal.{Refusal}
 use Rattle.soup.specs.Reading.{packet_of}
 use Rattle.soup.specs.declared.reading.Reading.{Reading}
 use Rattle.wire.specs.declared.kinds.Sequence.{Sequence}
@@ -20,16 +22,21 @@ machine_in l = machine_of l.pieces l.buffer
 
 -- which answers an entry allows, and which bytes in the buffer afterwards, for what is lent, a piece and a place in it
 abbrev pub Entry : Type 1
-Entry = Lent → (piece : List ℕ) (place : ℕ) → Taken → (left : List ℕ) → Type 0
+Entry = Lent → (piece : List ℕ) (place : ℕ) → Verdict Taken → (left : List ℕ) → Type 0
 
 -- those that the contract of `take` permits
 abbrev pub Permitted : Entry
 Permitted l piece place r left = Returned (eating l.pieces l.buffer piece place) l.buffer piece r left
 
+-- the number of a packet, 0 for one that has none
+abbrev pub number_in : Option Sequence → ℕ
+number_in None = 0
+number_in (Some number) = number.0
+
 -- what a caller is handed: a packet's bytes, what is said of it and its number, or a refused packet's bytes and why
 pub data Seen : Type 0 where
   a_packet : (bytes : List ℕ) (says : Reading) (number : ℕ) → Seen
-  a_refusal : (bytes : List ℕ) (why : ℕ) → Seen
+  a_refusal : (bytes : List ℕ) (why : Refusal) → Seen
 
 abbrev pub seen : List Yield → List Seen
 seen [] = []
@@ -38,28 +45,28 @@ seen (refusal d why ∷ hs) = a_refusal d why ∷ seen hs
 
 -- calling from a place on, and on from the place in each answer, until the piece is used up
 pub data Calls (entry : Entry) (piece : List ℕ) : Lent → ℕ → List Seen → Lent → Type 0 where
-  uses_up : (l : Lent) (place : ℕ) (after : Pieces) (left : List ℕ) → entry l piece place (takes.UsedUp after) left
+  uses_up : (l : Lent) (place : ℕ) (after : Pieces) (left : List ℕ) → entry l piece place (taken (takes.UsedUp after)) left
       → Calls entry piece l place [] (record { pieces = after; buffer = left })
-  hands : (l : Lent) (place : ℕ) (says : Reading) (number : Sequence) (bytes next : ℕ) (after : Pieces) (left : List ℕ) (more : List Seen)
+  hands : (l : Lent) (place : ℕ) (says : Reading) (number : Option Sequence) (bytes next : ℕ) (after : Pieces) (left : List ℕ) (more : List Seen)
       (end : Lent)
-      → entry l piece place (takes.Packet says number bytes next after) left
+      → entry l piece place (taken (takes.Packet says number bytes next after)) left
       → Calls entry piece (record { pieces = after; buffer = left }) next more end
-      → Calls entry piece l place (a_packet (take bytes left) says number.0 ∷ more) end
-  refuses : (l : Lent) (place why bytes next : ℕ) (after : Pieces) (left : List ℕ) (more : List Seen) (end : Lent)
-      → entry l piece place (takes.Unfit why bytes next after) left
+      → Calls entry piece l place (a_packet (take bytes left) says (number_in number) ∷ more) end
+  refuses : (l : Lent) (place : ℕ) (why : Refusal) (bytes next : ℕ) (after : Pieces) (left : List ℕ) (more : List Seen) (end : Lent)
+      → entry l piece place (taken (takes.Unfit why bytes next after)) left
       → Calls entry piece (record { pieces = after; buffer = left }) next more end
       → Calls entry piece l place (a_refusal (take bytes left) why ∷ more) end
 
 -- so many calls from a place on, none of which has used the piece up, and what is lent then and the place to go on from
 pub data Underway (entry : Entry) (piece : List ℕ) : Lent → ℕ → (calls : ℕ) → Lent → ℕ → Type 0 where
   begun : (l : Lent) (place : ℕ) → Underway entry piece l place 0 l place
-  handing : (l : Lent) (place : ℕ) (says : Reading) (number : Sequence) (bytes next : ℕ) (after : Pieces) (left : List ℕ)
+  handing : (l : Lent) (place : ℕ) (says : Reading) (number : Option Sequence) (bytes next : ℕ) (after : Pieces) (left : List ℕ)
       (calls : ℕ) (then : Lent) (at : ℕ)
-      → entry l piece place (takes.Packet says number bytes next after) left
+      → entry l piece place (taken (takes.Packet says number bytes next after)) left
       → Underway entry piece (record { pieces = after; buffer = left }) next calls then at
       → Underway entry piece l place (suc calls) then at
-  refusing : (l : Lent) (place why bytes next : ℕ) (after : Pieces) (left : List ℕ) (calls : ℕ) (then : Lent) (at : ℕ)
-      → entry l piece place (takes.Unfit why bytes next after) left
+  refusing : (l : Lent) (place : ℕ) (why : Refusal) (bytes next : ℕ) (after : Pieces) (left : List ℕ) (calls : ℕ) (then : Lent) (at : ℕ)
+      → entry l piece place (taken (takes.Unfit why bytes next after)) left
       → Underway entry piece (record { pieces = after; buffer = left }) next calls then at
       → Underway entry piece l place (suc calls) then at
 

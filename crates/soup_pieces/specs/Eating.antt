@@ -1,8 +1,9 @@
 -- What a call makes of a piece from a place on, and what it leaves in the buffer.
 -- Assumes nothing.
-use Rattle.std.specs.Prelude.{ℕ, ◌-◌, ◌≡◌, List, [], ◌∷◌, Bool, ◌&&◌, length, take, drop, if◌then◌else◌}
-use Rattle.wire.specs.Checks.{◌is◌, ◌at_most◌, Verdict, refused, taken, Check, ◌else◌, checked, ◌into◌}
+use Rattle.std.specs.Prelude.{ℕ, ◌-◌, ◌≡◌, List, [], ◌∷◌, Bool, ◌&&◌, length, take, drop, if◌then◌else◌, Option, None, Some}
+use Rattle.wire.specs.Checks.{◌is◌, ◌at_most◌, Verdict, taken, Check, ◌else◌, checked, ◌into◌, ◌told_by◌}
 use Rattle.wire.specs.Reply.{left_of}
+use Rattle.wire.specs.declared.kinds.Sequence.{Sequence}
 use Rattle.wire.specs.declared.refusal.Refusal.TheVariants.{Framing, Broken}
 use Rattle.soup.specs.Packet.{line_limit}
 use Rattle.soup.specs.Read.{unbroken}
@@ -38,13 +39,16 @@ unfoldable pub eating : Pieces → (buffer piece : List ℕ) → (place : ℕ) �
 eating pieces buffer piece place =
     checked (call_checks pieces buffer piece place) (taken (first (machine_of pieces buffer) (drop place piece)))
 
+-- the number of an S; 0 is none
+abbrev pub told_number : ℕ → Option Sequence
+told_number n = if n is 0 then None else Some (record { 0 = n })
+
 -- the answer that is returned; the place is where the bytes that are left begin
-abbrev pub returned : (piece : List ℕ) → Verdict First → Taken
-returned piece (refused n) = takes.Refused n
-returned piece (taken (used_up s)) = takes.UsedUp (pieces_of s)
-returned piece (taken (given (packet d p number) s left)) = takes.Packet (packet_of p) (record { 0 = number }) (length d)
+abbrev pub returned : (piece : List ℕ) → First → Taken
+returned piece (used_up s) = takes.UsedUp (pieces_of s)
+returned piece (given (packet d p number) s left) = takes.Packet (packet_of p) (told_number number) (length d)
     (length piece - length left) (pieces_of s)
-returned piece (taken (given (refusal d why) s left)) = takes.Unfit why (length d) (length piece - length left) (pieces_of s)
+returned piece (given (refusal d why) s left) = takes.Unfit why (length d) (length piece - length left) (pieces_of s)
 
 -- what stands at the buffer's start: what is handed out, or else what is kept
 abbrev pub at_start : First → List ℕ
@@ -52,6 +56,6 @@ at_start (used_up s) = s.kept
 at_start (given y s left) = yield_bytes y
 
 -- the answer r, and every byte of the buffer; `Callers` shows what a caller gets by it who goes on until the piece is used up
-pub record Returned (verdict : Verdict First) (buffer piece : List ℕ) (r : Taken) (left : List ℕ) : Type 0 where
-  pub answer : r ≡ returned piece verdict
+pub record Returned (verdict : Verdict First) (buffer piece : List ℕ) (r : Verdict Taken) (left : List ℕ) : Type 0 where
+  pub answer : r ≡ verdict told_by returned piece
   pub bytes : left ≡ left_of (verdict into λ f. taken (at_start f)) buffer

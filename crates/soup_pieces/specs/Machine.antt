@@ -2,7 +2,8 @@
 -- Assumes nothing.
 use Rattle.std.specs.Prelude.{ℕ, suc, ◌-◌, ◌^◌, List, [], ◌∷◌, ◌++◌, Bool, true, false, not, length, if◌then◌else◌}
 use Rattle.wire.specs.Checks.{◌is◌, ◌at_most◌, Verdict, refused, taken, Check, ◌else◌, checked, ◌into◌}
-use Rattle.wire.specs.declared.refusal.Refusal.TheVariants.{Bound, NotForRecord}
+use Rattle.wire.specs.declared.refusal.Refusal.{Refusal}
+use Rattle.wire.specs.declared.refusal.Refusal.TheVariants.{Overlong, Bound, NotForRecord}
 use Rattle.soup.specs.Packet.{Packet, debug, accept, reject, sequenced, server_heartbeat, end_of_session, login, unsequenced}
 use Rattle.soup.specs.Packet.{client_heartbeat}
 use Rattle.soup.specs.Packet.{logout, line_limit}
@@ -19,7 +20,7 @@ pub record Machine : Type 0 where
 -- shows that both are the reader's word and the count's
 pub data Yield : Type 0 where
   packet : (bytes : List ℕ) (says : Packet) (number : ℕ) → Yield
-  refusal : (bytes : List ℕ) (why : ℕ) → Yield
+  refusal : (bytes : List ℕ) (why : Refusal) → Yield
 
 -- the fate of a byte: it is kept, or dropped, or something is handed out that ends with it
 pub data Fate : Type 0 where
@@ -93,7 +94,7 @@ eat s b =
     let d = s.kept ++ b ∷ [] in
     if s.dropping then record { fate = drops b; machine = empty (not (b is 10)) s.next } else
     if b is 10 then ended s.next d (judge s.next d) else
-    if length d is line_limit then record { fate = gives (refusal d 2); machine = empty true s.next } else
+    if length d is line_limit then record { fate = gives (refusal d Overlong); machine = empty true s.next } else
     record { fate = keeps; machine = record { kept = d; dropping = false; next = s.next } }
 
 -- ---- many bytes

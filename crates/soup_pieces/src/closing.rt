@@ -1,6 +1,8 @@
 // A line that has ended is read, if it needs to be, and handed out if it is its turn.
 ghost use Rattle.std.specs.Prelude.{◌≡◌};
-ghost use Rattle.soup_pieces.specs.Closing.{Line, closed, empty_pieces, unfit, unnumbered, sequenced_fault};
+ghost use Rattle.wire.specs.Checks.{taken, checked, ◌told_by◌};
+ghost use Rattle.soup_pieces.specs.Machine.{counted, turn_checks, judge};
+ghost use Rattle.soup_pieces.specs.Closing.{Line, closed, empty_pieces, judged_of};
 
 use crate::{Pieces, Taken};
 use soup::reading;
@@ -11,83 +13,85 @@ use wire::refusal::Refusal;
 // One past the highest number that a message can have.
 const PAST_LAST: u64 = 18446744073709551615;
 
-pub(crate) fn empty(dropping: bool, next: u64) -> Pieces
-    ensures { result ≡ empty_pieces dropping next }
+// A packet whose turn it is, with its number if it is an `S`, and the number of the next `S` behind it.
+#[derive(Clone, Copy)]
+struct Judged {
+    packet: Reading,
+    number: Option<Sequence>,
+    next: Sequence,
+}
+
+pub(crate) fn empty(dropping: bool, next: Sequence) -> Pieces
+    ensures { result ≡ empty_pieces dropping next.0 }
 {
     Pieces {
         kept: 0,
         dropping,
-        next: Sequence(next),
+        next,
     }
 }
 
-fn unfit(why: u8, bytes: usize, next: u64, place: usize) -> Taken
-    ensures { result ≡ unfit why bytes next place }
+// Whether it is the turn of an `S` whose number would be `next`.
+fn check_turn(next: Sequence) -> Result<(), Refusal>
+    ensures { result ≡ checked (turn_checks next.0 counted) (taken tt) }
 {
-    Taken::Unfit {
-        why,
-        bytes,
-        place,
-        after: empty(false, next),
+    if next.0 == 0 {
+        return Err(Refusal::NotForRecord);
     }
+    if next.0 == PAST_LAST {
+        return Err(Refusal::Bound);
+    }
+    Ok(())
 }
 
-fn unnumbered(packet: Reading, bytes: usize, next: u64, place: usize) -> Taken
-    ensures { result ≡ unnumbered packet bytes next place }
+// A line that begins with `S` is a message, whatever it carries: it needs no reading.
+fn judge(line: &[u8], next: Sequence) -> Result<Judged, Refusal>
+    requires { Line line.now }
+    ensures { result ≡ judge next.0 line.now told_by judged_of next.0 }
 {
-    Taken::Packet {
+    if line[0] == b'S' {
+        check_turn(next)?;
+        return Ok(Judged {
+            packet: Reading::Sequenced {
+                start: 1,
+                length: line.len() - 2,
+            },
+            number: Some(next),
+            next: Sequence(next.0 + 1),
+        });
+    }
+    let packet = reading::read(line)?;
+    let behind = match packet {
+        Reading::Accept { session: _, number } if next.0 == 0 => number,
+        Reading::Accept { .. } => return Err(Refusal::NotForRecord),
+        _ => next,
+    };
+    Ok(Judged {
         packet,
-        number: Sequence(0),
-        bytes,
-        place,
-        after: empty(false, next),
-    }
+        number: None,
+        next: behind,
+    })
 }
 
-// The number under which an `S` is refused whose number would be `next`, 0 for none.
-fn sequenced_fault(next: u64) -> u8
-    ensures { result ≡ sequenced_fault next }
-{
-    if next == 0 {
-        return Refusal::NotForRecord;
-    }
-    if next == PAST_LAST {
-        return Refusal::Bound;
-    }
-    0
-}
-
-// A line that begins with `S` is a message, whatever it carries: it needs no reading. `place` is where to go on in the piece.
+// `place` is where to go on in the piece.
 pub(crate) fn close(line: &[u8], next: Sequence, place: usize) -> Taken
     requires { Line line.now }
     ensures { result ≡ closed line.now next.0 place }
 {
     let bytes = line.len();
-    if line[0] == b'S' {
-        let fault = sequenced_fault(next.0);
-        if fault != 0 {
-            return unfit(fault, bytes, next.0, place);
-        }
-        return Taken::Packet {
-            packet: Reading::Sequenced {
-                start: 1,
-                length: bytes - 2,
-            },
-            number: next,
+    match judge(line, next) {
+        Ok(judged) => Taken::Packet {
+            packet: judged.packet,
+            number: judged.number,
             bytes,
             place,
-            after: empty(false, next.0 + 1),
-        };
-    }
-    let said = reading::read(line);
-    match said {
-        Reading::Refused(why) => unfit(why, bytes, next.0, place),
-        Reading::Accept { session: _, number } => {
-            if next.0 != 0 {
-                return unfit(Refusal::NotForRecord, bytes, next.0, place);
-            }
-            unnumbered(said, bytes, number.0, place)
-        }
-        _ => unnumbered(said, bytes, next.0, place),
+            after: empty(false, judged.next),
+        },
+        Err(why) => Taken::Unfit {
+            why,
+            bytes,
+            place,
+            after: empty(false, next),
+        },
     }
 }

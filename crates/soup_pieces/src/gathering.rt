@@ -25,8 +25,8 @@ use crate::searching::linefeed;
 use crate::{Pieces, Taken};
 use soup::line;
 use wire::kinds::Sequence;
-use wire::refusal::Refusal;
 use wire::output;
+use wire::refusal::Refusal;
 
 fn smaller(a: usize, b: usize) -> usize
     ensures { result ≡ min a b }
@@ -45,7 +45,7 @@ pub(crate) fn gather(
     requires { (kept ≤ line_limit - 1) × (line_limit ≤ length buffer.old) × (unbroken (take kept buffer.old) ≡ true)
         × (from ≤ length piece.now) }
     ensures { Returned (taken (first (record { kept = take kept buffer.old; dropping = false; next = next.0 })
-        (drop from piece.now))) buffer.old piece.now result buffer.new }
+        (drop from piece.now))) buffer.old piece.now (taken result) buffer.new }
 {
     let room = line::LONGEST - kept;
     let left = piece.len() - from;
@@ -71,6 +71,6 @@ pub(crate) fn gather(
         why: Refusal::Overlong,
         bytes: line::LONGEST,
         place: to,
-        after: empty(true, next.0),
+        after: empty(true, next),
     }
 }

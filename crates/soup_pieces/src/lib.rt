@@ -22,53 +22,52 @@ pub struct Pieces {
     pub kept: usize,
     // The rest of an overlong packet is being dropped.
     pub dropping: bool,
-    // The number of the next `S`, 0 before Login Accepted.
+    // The number of the next `S`, 0 before Login Accepted, as the laws on `Machine.next` have it.
     pub next: Sequence,
 }
 
 // Up to the first packet that ends. Its bytes are the buffer's first `bytes`, and `place` is where to go on in the piece.
 #[derive(Clone, Copy)]
 pub enum Taken {
-    // The call itself is refused, and nothing has changed.
-    Refused(Refusal),
     // The piece is used up, and no packet ended.
     UsedUp {
         after: Pieces,
     },
-    // The number is that of an `S`; other packets have none, and 0 stands for it.
+    // The number is that of an `S`; other packets have none.
     Packet {
         packet: Reading,
-        number: Sequence,
+        number: Option<Sequence>,
         bytes: usize,
         place: usize,
         after: Pieces,
     },
     // A packet that is refused is used up as well.
     Unfit {
-        why: u8,
+        why: Refusal,
         bytes: usize,
         place: usize,
         after: Pieces,
     },
 }
 
-pub fn take(pieces: Pieces, buffer: &mut [u8], piece: &[u8], place: usize) -> Taken
+// Where the call itself is refused, nothing has changed.
+pub fn take(pieces: Pieces, buffer: &mut [u8], piece: &[u8], place: usize) -> Result<Taken, Refusal>
     ensures { Returned (eating pieces buffer.old piece.now place) buffer.old piece.now result
         buffer.new }
 {
     if !is_ready(pieces, buffer) {
-        return Taken::Refused(Refusal::Broken);
+        return Err(Refusal::Broken);
     }
     if piece.len() < place {
-        return Taken::Refused(Refusal::Framing);
+        return Err(Refusal::Framing);
     }
     let mut from = place;
     if pieces.dropping {
         let found = linefeed(piece, place, piece.len());
         if found == piece.len() {
-            return Taken::UsedUp { after: pieces };
+            return Ok(Taken::UsedUp { after: pieces });
         }
         from = found + 1;
     }
-    gather(pieces.kept, pieces.next, buffer, piece, from)
+    Ok(gather(pieces.kept, pieces.next, buffer, piece, from))
 }
