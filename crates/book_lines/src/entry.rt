@@ -1,20 +1,26 @@
 // The bytes that a text spells.
+ghost use Rattle.std.specs.Prelude.{◌≤◌, IfSome, length};
+
 use crate::hex;
 
-// How many runs a text has at most, with one more piece behind the last.
+// A text has two runs at most, with one more piece behind the last.
 const PIECES: usize = 3;
 
-// The last byte that was put is there so many times; nothing is, if there is no room for them.
-fn repeat(out: &mut [u8], put: usize, times: usize) -> Option<usize> {
+// The last byte that was put is there so many times, and so many bytes then stand there; nothing changes if there is no room for them.
+fn repeat(out: &mut [u8], put: usize, times: usize) -> Option<usize>
+    ensures { IfSome result (λ n. n ≤ length out.new) }
+{
     let last = put.checked_sub(1)?;
     let b = *out.get(last)?;
     out.get_mut(last..)?.get_mut(..times)?.fill(b);
-    last.checked_add(times)
+    Some(last + times)
 }
 
 // Puts what a text spells up to the end of its first run, and answers how many bytes that are, and the text behind it. `5A*1463` is
 // a run: the byte 5A, 1,463 times.
-fn first_run<'a>(text: &'a str, out: &mut [u8]) -> (usize, &'a str) {
+fn first_run<'a>(text: &'a str, out: &mut [u8]) -> (usize, &'a str)
+    ensures { result.0 ≤ length out.new }
+{
     let Some((front, back)) = text.split_once('*') else {
         return (hex::decode(text.as_bytes(), out), "");
     };
@@ -22,23 +28,18 @@ fn first_run<'a>(text: &'a str, out: &mut [u8]) -> (usize, &'a str) {
     let (times, behind) = back
         .split_once(|c: char| !c.is_ascii_digit())
         .unwrap_or((back, ""));
-    let count = match times.parse() {
-        Ok(times) => repeat(out, put, times),
-        Err(_) => None,
-    };
-    (count.unwrap_or(0), behind)
+    let times = times.parse().unwrap_or(0);
+    (repeat(out, put, times).unwrap_or(0), behind)
 }
 
-// Puts what a text spells, with two runs at most, at the start of out, and answers those bytes.
+// Puts what a text spells at the start of out, and answers those bytes.
 pub fn bytes<'a>(text: &str, out: &'a mut [u8]) -> &'a [u8] {
-    let mut count = 0usize;
+    let mut count = 0;
     let mut rest = text;
     for _ in 0..PIECES {
-        if let Some(room) = out.get_mut(count..) {
-            let (put, behind) = first_run(rest, room);
-            count = count.saturating_add(put);
-            rest = behind;
-        }
+        let (put, behind) = first_run(rest, &mut out[count..]);
+        count += put;
+        rest = behind;
     }
-    out.get(..count).unwrap_or(&[])
+    &out[..count]
 }
