@@ -34,7 +34,10 @@ fn client(rt: &impl Print, p: Fields) -> io::Result<()> {
             print!(rt; ", token")
         }
         types::REPLAY => {
-            print!(rt; "\n= replay, session {session}, next {number}, count {}", p.count)
+            print!(rt;
+                "\n= replay, session {session}, next {number}, count {}",
+                p.count
+            )
         }
         types::REPLAY_ALL => print!(rt; "\n= replay all, session {session}"),
         types::STREAM => print!(rt; "\n= stream, session {session}, next {number}"),
