@@ -1,186 +1,151 @@
--- Each turn of a loop over slots, told of the definitions: message after message, slot after slot.
+-- One turn more of a loop over slots, told of the definitions: message after message, from a number on.
 -- Assumes nothing.
 use Prim.Native.Nat.{ℕ, zero, suc, ◌+◌, ◌-◌, ◌*◌, ◌%◌, ◌≤◌, ◌<◌}
 use mathlib.Core.Path.{◌≡◌, refl, ap, sym, ◌∙◌}
-use mathlib.Core.List.{List, [], ◌∷◌, ◌++◌}
-use mathlib.Core.Bool.{Bool, true, false, not, or-true, and-false}
+use mathlib.Core.List.{List, ◌∷◌, ◌++◌}
+use mathlib.Core.Bool.{true, false}
 use native.Mathlib.Omega.{arith}
-use borrow.Author.Tests.{le-leb, lt-leb}
+use borrow.Author.Tests.{le-leb}
 use lib.ListN.{length, take, length-drop, length-append}
 use lib.Seq.{sets, take_at}
-use lib.Dec.{leb}
+use Rattle.std.specs.Prelude.{Option, Some, None}
+use Rattle.std.specs.Option.{MatchOption, unwrap_or}
 use Rattle.wire.specs.Fields.{Bytes}
 use Rattle.wire.proofs.Width.{bytes_drop, sets-append}
 use Rattle.blocks.specs.Blocks.{frame, frames, stated, there, first, rest}
-use Rattle.blocks.proofs.Frames.{length-frame, length-first, framed-again}
-use Rattle.held.specs.Slots.{area_size, longest, slot_of, is_full, full, freed, freed_from, slot_at, held_message}
-use Rattle.held.specs.Hanging.{every, placed, in_place, fits, sound}
+use Rattle.blocks.proofs.Frames.{length-frame, length-first, frames-one, frames-append, framed-again}
+use Rattle.held.specs.Slots.{longest, slot_of, full, freed, freed_from, slot_at, held_message}
+use Rattle.held.specs.Hanging.{sound}
 use Rattle.held.specs.Releasing.{run, held_from, Fitting}
+use Rattle.held.proofs.Bitmap.{freed-add, freed-none}
 use Rattle.held.proofs.Hangs.{sound-fits, fits-at}
-use Rattle.held.proofs.Releases.{run-within, run-full}
-
-one_more : (m : ℕ) → suc m ≡ m + 1
-one_more m = omega arith
-
--- the message that a turn is at, of count messages from a number on of which some are left
-pub begun : (number count : ℕ) → number + (count - count) ≡ number
-begun number count = omega arith
-
-pub moved : (number count left : ℕ) → 0 < left → left ≤ count → number + (count - (left - 1)) ≡ number + (count - left) + 1
-moved number count left a b = omega arith
-
-pub none_left : (n : ℕ) → n ≤ 0 → n ≡ 0
-none_left n h = omega arith
-
-pub slot_next : (m : ℕ) → (slot_of m + 1) % 32 ≡ slot_of (m + 1)
-slot_next m = omega arith
+use Rattle.held.proofs.Releases.{run-within, run-full, held-lean}
 
 pub slots-add : (m n : ℕ) → slot_of (m % 32 + n % 32) ≡ slot_of (m + n)
 slots-add m n = omega arith
 
-pub freed-step : (n held m : ℕ) → 0 < n → freed_from n held m ≡ freed_from (n - 1) (freed held (slot_of m)) (m + 1)
-unfolding freed_from
-freed-step n held m h = rw (← one_more m) (by n h) where
-  by : (n : ℕ) → 0 < n → freed_from n held m ≡ freed_from (n - 1) (freed held (slot_of m)) (suc m)
-  by zero h = absurd (omega arith)
-  by (suc n) h = let e : suc n - 1 ≡ n = omega arith in rw e
+-- ---- one slot more falls free
 
-pub freed-ended : (held m : ℕ) → freed_from 0 held m ≡ held
-unfolding freed_from
-freed-ended held m = refl
+module _ (held m k : ℕ) where
+  pub freed-more : freed_from (k + 1) held m ≡ freed (freed_from k held m) (slot_of (m + k))
+  unfolding freed_from
+  freed-more = freed-add k 1 held m
 
-module _ (n held m : ℕ) where
-  pub run-goes : 0 < n → full held m ≡ true → run n held m ≡ 1 + run (n - 1) held (m + 1)
+  -- where none is full any more, the others change nothing
+  pub freed-all : (n : ℕ) → k ≤ n → freed_from k held m ≡ 0 → freed_from n held m ≡ 0
+  freed-all n h e =
+      let s : k + (n - k) ≡ n = omega arith in
+      let f : freed_from n held m ≡ freed_from (n - k) (freed_from k held m) (m + k) = rw s at (freed-add k (n - k) held m) in
+      rw (f, e) (freed-none (n - k) (m + k))
+
+-- ---- the first free slot ends a run
+
+module _ (held : ℕ) where
+  run-until : (n m i : ℕ) → i < n → full held (m + i) ≡ false → ((j : ℕ) → j < i → full held (m + j) ≡ true) → run n held m ≡ i
   unfolding run
-  run-goes h e = by n h where
-    by : (n : ℕ) → 0 < n → run n held m ≡ 1 + run (n - 1) held (m + 1)
-    by zero h = absurd (omega arith)
-    by (suc n) h =
-        let q : suc n - 1 ≡ n = omega arith in
-        let z : suc (run n held (suc m)) ≡ 1 + run n held (suc m) = omega arith in
-        rw (e, q, ← one_more m) z
+  run-until zero m i h e f = absurd (omega arith)
+  run-until (suc n) m zero h e f = let z : m + 0 ≡ m = omega arith in rw (rw z at e)
+  run-until (suc n) m (suc i) h e f =
+      let z : m + 0 ≡ m = omega arith in
+      let s : m + suc i ≡ suc m + i = omega arith in
+      rw (rw z at (f 0 (omega arith)))
+      (ap suc (run-until n (suc m) i (omega arith) (rw s at e) (λ j l. shift m j (f (suc j) (omega arith))))) where
+        shift : (m j : ℕ) → full held (m + suc j) ≡ true → full held (suc m + j) ≡ true
+        shift m j e = let s : suc m + j ≡ m + suc j = omega arith in rw s e
 
-module _ (p : ℕ → Bool) (n : ℕ) (h : 0 < n) where
-  pub every-step : p (n - 1) ≡ true → every n p ≡ every (n - 1) p
-  unfolding every
-  every-step e = by n h e where
-    by : (n : ℕ) → 0 < n → p (n - 1) ≡ true → every n p ≡ every (n - 1) p
-    by zero h e = absurd (omega arith)
-    by (suc n) h e = let q : suc n - 1 ≡ n = omega arith in let f : p n ≡ true = rw q at e in rw (q, f)
+  run-all : (n m : ℕ) → ((j : ℕ) → j < n → full held (m + j) ≡ true) → run n held m ≡ n
+  unfolding run
+  run-all zero m f = refl
+  run-all (suc n) m f =
+      let z : m + 0 ≡ m = omega arith in
+      rw (rw z at (f 0 (omega arith))) (ap suc (run-all n (suc m) (λ j l. shift m j (f (suc j) (omega arith))))) where
+        shift : (m j : ℕ) → full held (m + suc j) ≡ true → full held (suc m + j) ≡ true
+        shift m j e = let s : suc m + j ≡ m + suc j = omega arith in rw s e
 
-  pub every-fails : p (n - 1) ≡ false → every n p ≡ false
-  unfolding every
-  every-fails e = by n h e where
-    by : (n : ℕ) → 0 < n → p (n - 1) ≡ false → every n p ≡ false
-    by zero h e = absurd (omega arith)
-    by (suc n) h e = let q : suc n - 1 ≡ n = omega arith in let f : p n ≡ false = rw q at e in rw f
-
-pub every-none : (p : ℕ → Bool) → every 0 p ≡ true
-unfolding every
-every-none p = refl
-
-pub in-place-is : (held next top : ℕ) → in_place held next top ≡ every 32 (placed held next top)
-unfolding in_place
-in-place-is held next top = refl
-
--- where the message d after N stands
-module _ (held next top d : ℕ) where
-  pub free-placed : full held (next + d) ≡ false → placed held next top d ≡ true
-  free-placed e = rw e
-
-  pub well-placed : 1 ≤ d → next + d ≤ top → placed held next top d ≡ true
-  well-placed a b = rw (le-leb 1 d a, le-leb (next + d) top b) (or-true (not (full held (next + d))))
-
-  pub own-slot : full held (next + d) ≡ true → d ≡ 0 → placed held next top d ≡ false
-  own-slot e z = rw (e, z)
-
-  pub above-top : full held (next + d) ≡ true → top < next + d → placed held next top d ≡ false
-  above-top e l = rw (e, lt-leb (next + d) top l) (and-false (leb 1 d))
-
-module _ (held : ℕ) (area : List ℕ) (i : ℕ) where
-  pub free-fits : is_full held i ≡ false → fits held area i ≡ true
-  free-fits e = rw e
-
-  pub short-fits : stated (slot_at area i) ≤ longest → fits held area i ≡ true
-  short-fits l = rw (le-leb (stated (slot_at area i)) longest l) (or-true (not (is_full held i)))
-
-  pub overlong : is_full held i ≡ true → longest < stated (slot_at area i) → fits held area i ≡ false
-  overlong e l = rw (e, lt-leb (stated (slot_at area i)) longest l)
-
--- of count messages from a number on, whose slots have room for what they state, some are left: what the slot of the next one states
-pub next-states : (area : List ℕ) (number count left slot n : ℕ) → Fitting area number count → 0 < left → left ≤ count
-    → slot ≡ slot_of (number + (count - left)) → n ≡ stated (slot_at area slot)
-    → (n ≡ stated (slot_at area (slot_of (number + (count - left))))) × (n ≤ longest)
-next-states area number count left slot n f some all s e =
-    let same = e ∙ ap (λ (i : ℕ). stated (slot_at area i)) s in
-    (same, rw same (f.room (count - left) (omega arith)))
+  pub run-is : (n m : ℕ) (free : Option ℕ)
+      → MatchOption free ((k : ℕ) → 0 ≤ k → k < n → full held (m + k) ≡ true)
+      (λ i. (0 ≤ i) × (i < n) × (full held (m + i) ≡ false) × ((k : ℕ) → 0 ≤ k → k < i → full held (m + k) ≡ true))
+      → unwrap_or free n ≡ run n held m
+  run-is n m None h = sym (run-all n m (λ j l. h j (omega arith) l))
+  run-is n m (Some i) h = sym (run-until n m i h.1 h.2 (λ j l. h.3 j (omega arith) l))
 
 pub run_fits : (held : ℕ) (area : List ℕ) (m : ℕ) → sound held area ≡ true → Fitting area m (run 31 held m)
 run_fits held area m e =
     let f = sound-fits held area e in
     record { few = run-within 31 held m; long = f.enough; room = λ j h. fits-at held area f (m + j) (run-full 31 held m j h) }
 
--- the message of a slot that has room for it, as a block
-module _ (area : List ℕ) (b : Bytes area) (long : area_size ≤ length area) (m : ℕ) (h : stated (slot_at area (slot_of m)) ≤ longest) where
-  whole-there : there (slot_at area (slot_of m)) ≡ true
-  whole-there = le-leb (2 + stated (slot_at area (slot_of m))) (length (slot_at area (slot_of m))) (rw length-drop (omega arith))
+-- ---- one message more is released
 
-  pub length-message : length (held_message area m) ≡ stated (slot_at area (slot_of m))
-  length-message = length-first (slot_at area (slot_of m)) whole-there
-
-  pub held-block : frame (held_message area m) ≡ take (2 + stated (slot_at area (slot_of m))) (slot_at area (slot_of m))
-  held-block =
-      let s = slot_at area (slot_of m) in
-      let l : length (frame (first s)) ≡ 2 + stated s = length-frame (first s) ∙ ap (λ (n : ℕ). 2 + n) length-message in
-      sym (ap (take (2 + stated s)) (sym (framed-again s whole-there (bytes_drop (1472 * slot_of m) area b)))
-      ∙ take_at (frame (first s)) (rest s) (2 + stated s) l)
-
-held-step : (n : ℕ) (area : List ℕ) (m : ℕ) → 0 < n → held_from n area m ≡ held_message area m ∷ held_from (n - 1) area (m + 1)
+held-add : (a b : ℕ) (area : List ℕ) (m : ℕ) → held_from (a + b) area m ≡ held_from a area m ++ held_from b area (m + a)
 unfolding held_from
-held-step n area m h = by n h where
-  by : (n : ℕ) → 0 < n → held_from n area m ≡ held_message area m ∷ held_from (n - 1) area (m + 1)
-  by zero h = absurd (omega arith)
-  by (suc n) h = let q : suc n - 1 ≡ n = omega arith in rw (q, ← one_more m)
+held-add zero b area m = let z : 0 + b ≡ b = omega arith in let y : m + 0 ≡ m = omega arith in rw (z, y)
+held-add (suc a) b area m =
+    let s : suc a + b ≡ suc (a + b) = omega arith in
+    let t : m + suc a ≡ suc m + a = omega arith in
+    rw (s, t) (ap (λ (ms : List (List ℕ)). held_message area m ∷ ms) (held-add a b area (suc m)))
 
--- of n messages from m on, the first, and those behind it
-module _ (n : ℕ) (area : List ℕ) (b : Bytes area) (m : ℕ) (h : 0 < n) (long : area_size ≤ length area)
-    (room : stated (slot_at area (slot_of m)) ≤ longest) where
+frames-add : (a b : ℕ) (area : List ℕ) (m : ℕ)
+    → frames (held_from (a + b) area m) ≡ frames (held_from a area m) ++ frames (held_from b area (m + a))
+frames-add a b area m = ap frames (held-add a b area m) ∙ frames-append (held_from a area m) (held_from b area (m + a))
+
+-- of count messages from number m on, whose slots have room for what they state, the one behind the first k
+module _ (area : List ℕ) (bytes : Bytes area) (m count : ℕ) (f : Fitting area m count) (k : ℕ) (h : k < count) where
+  abbrev slot : List ℕ
+  slot = slot_at area (slot_of (m + k))
+
   abbrev size : ℕ
-  size = 2 + stated (slot_at area (slot_of m))
+  size = 2 + stated slot
 
-  abbrev others : List ℕ
-  others = frames (held_from (n - 1) area (m + 1))
+  pub has-room : stated slot ≤ longest
+  has-room = f.room k h
 
-  first_then : frames (held_from n area m) ≡ take size (slot_at area (slot_of m)) ++ others
-  unfolding frames
-  first_then = rw (held-step n area m h) (ap (λ (x : List ℕ). x ++ others) (held-block area b long m room))
+  whole-there : there slot ≡ true
+  whole-there = let r = has-room in let l = f.long in le-leb size (length slot) (rw length-drop (omega arith))
 
-  length-size : length (take size (slot_at area (slot_of m))) ≡ size
-  length-size =
-      sym (ap length (held-block area b long m room))
-      ∙ length-frame (held_message area m)
-      ∙ ap (λ (k : ℕ). 2 + k) (length-message area b long m room)
+  block : frame (first slot) ≡ take size slot
+  block =
+      let l : length (frame (first slot)) ≡ size = length-frame (first slot) ∙ ap (λ (n : ℕ). 2 + n) (length-first slot whole-there) in
+      sym (ap (take size) (sym (framed-again slot whole-there (bytes_drop (1472 * slot_of (m + k)) area bytes)))
+      ∙ take_at (frame (first slot)) (rest slot) size l)
 
-  pub size_step : length (frames (held_from n area m)) ≡ size + length others
-  size_step =
-      ap length first_then
-      ∙ length-append (take size (slot_at area (slot_of m))) others
-      ∙ ap (λ (k : ℕ). k + length others) length-size
+  one-more : frames (held_from (k + 1) area m) ≡ frames (held_from k area m) ++ take size slot
+  unfolding held_from
+  one-more = frames-add k 1 area m ∙ ap (λ (s : List ℕ). frames (held_from k area m) ++ s) (frames-one (first slot) ∙ block)
 
-  pub lay_step : (out : List ℕ) (to : ℕ)
-      → sets out to (frames (held_from n area m)) ≡ sets (sets out to (take size (slot_at area (slot_of m)))) (to + size) others
-  lay_step out to =
-      ap (sets out to) first_then ∙ sym (sets-append out to (take size (slot_at area (slot_of m))) others)
-      ∙ ap (λ (k : ℕ). sets (sets out to (take size (slot_at area (slot_of m)))) (to + k) others) length-size
+  one-long : length (frames (held_from 1 area (m + k))) ≡ size
+  unfolding held_from
+  one-long = ap length (frames-one (first slot)) ∙ length-frame (first slot) ∙ ap (λ (n : ℕ). 2 + n) (length-first slot whole-there)
 
--- none are left
-module _ (n : ℕ) (area : List ℕ) (m : ℕ) (h : n ≤ 0) where
-  ended : frames (held_from n area m) ≡ []
+  pub size-more : length (frames (held_from (k + 1) area m)) ≡ length (frames (held_from k area m)) + size
+  size-more =
+      ap length (frames-add k 1 area m) ∙ length-append (frames (held_from k area m)) (frames (held_from 1 area (m + k)))
+      ∙ ap (λ (n : ℕ). length (frames (held_from k area m)) + n) one-long
+
+  -- so far no more than so many slots of bytes
+  pub size-lean : length (frames (held_from k area m)) ≤ 1472 * k
+  size-lean = held-lean area k m (λ j l. f.room j (omega arith))
+
+  -- and with this one no more than all of them
+  pub size-within : length (frames (held_from k area m)) + size ≤ length (frames (held_from count area m))
+  size-within =
+      let s : k + 1 + (count - (k + 1)) ≡ count = omega arith in
+      let e : length (frames (held_from count area m))
+      ≡ length (frames (held_from (k + 1) area m)) + length (frames (held_from (count - (k + 1)) area (m + (k + 1)))) =
+      rw s at (ap length (frames-add (k + 1) (count - (k + 1)) area m)
+      ∙ length-append (frames (held_from (k + 1) area m)) (frames (held_from (count - (k + 1)) area (m + (k + 1))))) in
+      omega (arith, size-more)
+
+  pub lay-more : (out : List ℕ) (at : ℕ)
+      → sets (sets out at (frames (held_from k area m))) (at + length (frames (held_from k area m))) (take size slot)
+      ≡ sets out at (frames (held_from (k + 1) area m))
+  lay-more out at = sets-append out at (frames (held_from k area m)) (take size slot) ∙ ap (sets out at) (sym one-more)
+
+-- none is released so far
+module _ (area : List ℕ) (m : ℕ) where
+  pub none-sized : length (frames (held_from 0 area m)) ≡ 0
   unfolding frames held_from
-  ended = rw (none_left n h)
+  none-sized = refl
 
-  pub size-ended : length (frames (held_from n area m)) ≡ 0
-  size-ended = ap length ended
-
-  pub lay-ended : (out : List ℕ) (to : ℕ) → sets out to (frames (held_from n area m)) ≡ out
-  lay-ended out to = ap (sets out to) ended
+  pub none-laid : (out : List ℕ) (at : ℕ) → sets out at (frames (held_from 0 area m)) ≡ out
+  unfolding frames held_from
+  none-laid out at = refl

@@ -1,5 +1,6 @@
 pub mod Areas
 pub mod Bitmap
+pub mod Each
 pub mod Bits
 pub mod Going
 pub mod Hangs

@@ -4,7 +4,6 @@ ghost use Rattle.held.specs.Slots.{area_size};
 ghost use Rattle.held.specs.Hanging.{every, fits, in_place, sound};
 
 use crate::slots;
-use wire::fields;
 
 // No full slot is that of the next message, and none stands for a message above the top.
 pub fn is_in_place(held: u32, next: u64, top: u64) -> bool
@@ -13,38 +12,15 @@ pub fn is_in_place(held: u32, next: u64, top: u64) -> bool
     if held == 0 {
         return true;
     }
-    let mut ahead = 32;
-    while 0 < ahead {
-        ahead -= 1;
-        if slots::is_ahead_full(held, next, ahead) {
-            if ahead == 0 {
-                return false;
-            }
-            if top < next {
-                return false;
-            }
-            if top - next < ahead {
-                return false;
-            }
-        }
-    }
-    true
+    let reach = top.saturating_sub(next);
+    (0..32).all(|ahead| !slots::is_ahead_full(held, next, ahead) || (1 <= ahead && ahead <= reach))
 }
 
 fn fits(held: u32, area: &[u8]) -> bool
     requires { area_size ≤ length area.now }
     ensures { result ≡ every 32 (fits held area.now) }
 {
-    let mut slot = 32;
-    while 0 < slot {
-        slot -= 1;
-        if slots::is_full(held, slot) {
-            if slots::LONGEST < fields::get2(area, slots::SLOT * slot as usize) as usize {
-                return false;
-            }
-        }
-    }
-    true
+    (0..32).all(|slot| !slots::is_full(held, slot) || slots::stated(area, slot) <= slots::LONGEST)
 }
 
 // There are 32 slots, and each full one states a length that it has room for.

@@ -6,8 +6,8 @@ ghost use Rattle.held.specs.Releasing.{run, held_from, Fitting, releasing, Settl
 
 use crate::hanging::is_sound;
 use crate::slots;
+use wire::output;
 use wire::refusal::Refusal;
-use wire::{fields, output};
 
 // What went out: so many messages, in so many bytes.
 #[derive(Clone, Copy, Debug, PartialEq, Eq)]
@@ -20,16 +20,9 @@ pub struct Released {
 fn run(held: u32, number: u64) -> u32
     ensures { (result ≡ run 31 held number) × (result ≤ 31) }
 {
-    let mut slot = slots::slot_of(number);
-    let mut left = 31;
-    while 0 < left {
-        if !slots::is_full(held, slot) {
-            return 31 - left;
-        }
-        slot = slots::after(slot);
-        left -= 1;
-    }
-    31
+    (0..31)
+        .find(|&ahead| !slots::is_ahead_full(held, number, ahead as u64))
+        .unwrap_or(31)
 }
 
 // The bytes of so many blocks.
@@ -37,13 +30,9 @@ fn size(number: u64, messages: u32, area: &[u8]) -> usize
     requires { Fitting area.now number messages }
     ensures { result ≡ length (frames (held_from messages area.now number)) }
 {
-    let mut slot = slots::slot_of(number);
-    let mut left = messages;
     let mut bytes = 0;
-    while 0 < left {
-        bytes += 2 + fields::get2(area, slots::SLOT * slot as usize) as usize;
-        slot = slots::after(slot);
-        left -= 1;
+    for ahead in 0..messages as u64 {
+        bytes += 2 + slots::stated(area, slots::slot_ahead(number, ahead));
     }
     bytes
 }
@@ -52,16 +41,12 @@ fn lay(number: u64, messages: u32, area: &[u8], out: &mut [u8], at: usize)
     requires { Fitting area.now number messages × (at + length (frames (held_from messages area.now number)) ≤ length out.old) }
     ensures { out.new ≡ sets out.old at (frames (held_from messages area.now number)) }
 {
-    let mut slot = slots::slot_of(number);
-    let mut left = messages;
     let mut to = at;
-    while 0 < left {
-        let from = slots::SLOT * slot as usize;
-        let bytes = 2 + fields::get2(area, from) as usize;
-        output::copy(out, to, area, from, bytes);
+    for ahead in 0..messages as u64 {
+        let slot = slots::slot_ahead(number, ahead);
+        let bytes = 2 + slots::stated(area, slot);
+        output::copy(out, to, area, slots::SLOT * slot as usize, bytes);
         to += bytes;
-        slot = slots::after(slot);
-        left -= 1;
     }
 }
 

@@ -1,6 +1,9 @@
 // The slots, and the bitmap of those that are full. specs/Slots has a picture of their bytes.
-ghost use Rattle.std.specs.Prelude.{◌≡◌, ◌+◌, ◌%◌, ◌<◌};
-ghost use Rattle.held.specs.Slots.{slot_of, is_full, full, filled, freed, freed_from};
+ghost use Rattle.std.specs.Prelude.{◌≡◌, ◌+◌, ◌≤◌, ◌<◌, length};
+ghost use Rattle.blocks.specs.Blocks.{stated};
+ghost use Rattle.held.specs.Slots.{area_size, slot_of, slot_at, is_full, full, filled, freed, freed_from};
+
+use wire::fields;
 
 // There are 32 slots of this many bytes.
 pub const SLOT: usize = 1472;
@@ -16,11 +19,19 @@ pub(crate) fn slot_of(number: u64) -> u32
     (number % 32) as u32
 }
 
-pub(crate) fn after(slot: u32) -> u32
-    requires { slot < 32 }
-    ensures { (result ≡ (slot + 1) % 32) × (result < 32) }
+// The slot of the message so many after another. Their sum may not fit a number; their slots' does.
+pub(crate) fn slot_ahead(number: u64, ahead: u64) -> u32
+    ensures { (result ≡ slot_of (number + ahead)) × (result < 32) }
 {
-    (slot + 1) % 32
+    slot_of(number % 32 + ahead % 32)
+}
+
+// What the first two bytes of a slot state.
+pub(crate) fn stated(area: &[u8], slot: u32) -> usize
+    requires { (slot < 32) × (area_size ≤ length area.now) }
+    ensures { result ≡ stated (slot_at area.now slot) }
+{
+    fields::get2(area, SLOT * slot as usize) as usize
 }
 
 pub(crate) fn is_full(held: u32, slot: u32) -> bool
@@ -52,30 +63,23 @@ pub(crate) fn free(held: u32, slot: u32) -> u32
     }
 }
 
-// Whether the slot of the message so many after the next one is full. Their sum may not fit a number; their slots' does.
+// Whether the slot of the message so many after the next one is full.
 pub fn is_ahead_full(held: u32, next: u64, ahead: u64) -> bool
     ensures { result ≡ full held (next + ahead) }
 {
-    is_full(held, slot_of(next % 32 + ahead % 32))
+    is_full(held, slot_ahead(next, ahead))
 }
 
 // The slots of `count` messages fall free, from a number on.
 pub fn free_from(held: u32, number: u64, count: u64) -> u32
     ensures { result ≡ freed_from count held number }
 {
-    if held == 0 {
-        return 0;
-    }
     let mut kept = held;
-    let mut slot = slot_of(number);
-    let mut left = count;
-    while 0 < left {
+    for ahead in 0..count {
         if kept == 0 {
             return 0;
         }
-        kept = free(kept, slot);
-        slot = after(slot);
-        left -= 1;
+        kept = free(kept, slot_ahead(number, ahead));
     }
     kept
 }

@@ -1,7 +1,6 @@
-use mathlib.Core.Path.{◌≡◌}
+use mathlib.Core.Path.{◌≡◌, sym, ◌∙◌}
 use mathlib.Core.Bool.{true}
 use native.Mathlib.Omega.{arith}
-use Rattle.wire.proofs.Tests.{held, failed}
 use Rattle.held.specs.Hanging.{sound}
 use Rattle.held.proofs.Going.{run_fits}
 use Rattle.held.proofs.Letting.{broken-area, too-little, lets_go, no_room, nothing-goes}
@@ -9,12 +8,12 @@ use Rattle.held.proofs.releasing.release.Goals.{Else-not-is_sound}
 use Rattle.held.proofs.releasing.release.Goals as goal
 
 sound-so : (c : Else-not-is_sound) → sound c.args.held c.args.area.now ≡ true
-sound-so c = held c.is_sound.ensures c.if-not-is_sound.false-raw
+sound-so c = sym c.is_sound.ensures ∙ c.if-not-is_sound.false
 
 pub returns-then-not-is_sound : goal.returns-then-not-is_sound
 returns-then-not-is_sound c =
     let a = c.args in
-    broken-area a.held a.area.now a.number a.at a.out.now (failed c.is_sound.ensures c.if-not-is_sound.true-raw)
+    broken-area a.held a.area.now a.number a.at a.out.now (sym c.is_sound.ensures ∙ c.if-not-is_sound.true)
 
 pub returns-then-out-at : goal.returns-then-out-at
 returns-then-out-at c =
