@@ -9,11 +9,11 @@ use native.Mathlib.Omega.{arith}
 use lib.ListN.{length, take, drop, length-append, length-drop}
 use lib.Seq.{take_at}
 use Rattle.wire.specs.Fields.{Bytes}
-use Rattle.wire.specs.Checks.{taken}
+use Rattle.wire.specs.Checks.{refused, taken}
+use Rattle.wire.specs.declared.refusal.Refusal.{Refusal}
 use Rattle.wire.specs.Datagram.{limit}
-use Rattle.blocks.specs.Blocks.{frames, place_after, place_of}
-use Rattle.blocks.specs.declared.Place.TheVariants as place
-use Rattle.wire.proofs.Tests.{impossible}
+use Rattle.blocks.specs.Blocks.{frames, place_after}
+use Rattle.wire.proofs.Checks.{not-both, taken-same}
 use Rattle.wire.proofs.Width.{bytes_take}
 use Rattle.blocks.proofs.Places.{frames-split}
 use Rattle.blocks.proofs.Skipping.{past, Skipped, skipped, skipped-bytes}
@@ -50,10 +50,8 @@ module _ (l : Log) (s : List ℕ) (f c : ℕ) (h : hangs l s ≡ true) (i : 0 < 
   skip : Skipped held 0 (f - 1) l.count ms
   skip = skipped (f - 1) l.count held 0 ms (omega arith) (hanging l s h).cuts (omega arith)
 
-  pub never-refused : {C : Type 0} (n : ℕ) → place_of (place_after (f - 1) held 0) ≡ place.Refused n → C
-  never-refused n e =
-      let p : place.At begins ≡ place.Refused n = rw skip.place at e in
-      impossible (cc p)
+  pub never-refused : {C : Type 0} (why : Refusal) → place_after (f - 1) held 0 ≡ refused why → C
+  never-refused why e = not-both (place_after (f - 1) held 0) why begins e skip.place
 
   the-run : run held begins begins 0 c ≡ record { count = number; end = begins + length (frames (take number others)) }
   the-run =
@@ -94,9 +92,8 @@ module _ (l : Log) (s : List ℕ) (f c : ℕ) (h : hangs l s ≡ true) (i : 0 < 
       }
 
   pub sent : (room p : ℕ) (r : Run) → Bytes s → limit ≤ room
-      → place_of (place_after (f - 1) held 0) ≡ place.At p → r ≡ run held p p 0 c → Sent room p r
+      → place_after (f - 1) held 0 ≡ taken p → r ≡ run held p p 0 c → Sent room p r
   sent room p r b w e g =
-      let q : place.At begins ≡ place.At p = rw skip.place at e in
-      let at : p ≡ begins = cc q in
+      let at : p ≡ begins = taken-same p begins (sym e ∙ skip.place) in
       let runs : r ≡ record { count = number; end = begins + size } = g ∙ ap (λ (x : ℕ). run held x x 0 c) at ∙ the-run in
       rw (at, runs) (sent-there room b w)

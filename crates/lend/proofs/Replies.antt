@@ -3,11 +3,13 @@
 use Prim.Native.Nat.{ℕ, ◌+◌, ◌≤◌, ◌<◌}
 use mathlib.Core.List.{List, []}
 use mathlib.Core.Path.{◌≡◌, ap, sym, ◌∙◌}
+use mathlib.Core.Logic.{◌⊎◌, inl, inr}
 use mathlib.Core.Bool.{true, false}
 use native.Mathlib.Omega.{arith}
-use borrow.Author.Tests.{le-leb, lt-leb, ne_eqb}
+use borrow.Author.Tests.{le-leb, lt-leb, eq-eqb, ne_eqb}
 use lib.ListN.{length}
-use Rattle.wire.specs.Checks.{taken}
+use Rattle.wire.specs.Checks.{refused, taken}
+use Rattle.wire.specs.declared.refusal.Refusal.TheVariants.{Absent}
 use Rattle.wire.specs.Reply.{within}
 use Rattle.wire.specs.Datagram.{limit}
 use Rattle.wire.proofs.Settling.{enough-room}
@@ -45,6 +47,12 @@ module _ (l : Log) (s : List ℕ) (h : hangs l s ≡ true) where
   pub replies-end : (room : ℕ) → l.ended ≡ true → ufo.end_reply l.count room ≡ end_packet_reply l s room
   unfolding end_packet_reply
   replies-end room e = writes_end room ∙ rw (h, e)
+
+  -- a request for no number, or for no messages
+  pub answers-none : (f c room : ℕ) → (f ≡ 0) ⊎ ((f ≡ 0 → ⊥) × (c ≡ 0)) → answer_reply l s f c room ≡ refused Absent
+  unfolding answer_reply
+  answers-none f c room (inl e) = rw (h, eq-eqb f 0 e)
+  answers-none f c room (inr e) = rw (h, ne_eqb f 0 e.0, eq-eqb c 0 e.1)
 
   module _ (f c room : ℕ) (i : 0 < f) (j : 0 < c) (w : limit ≤ room) where
     pub replies : answer_reply l s f c room ≡ taken (write (answer_to l.ended ms f c))

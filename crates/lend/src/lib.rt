@@ -9,14 +9,13 @@ ghost use Rattle.ufo.specs.Down.{write};
 ghost use Rattle.lent_log.specs.Log.{messages_in, hangs};
 ghost use Rattle.lend.specs.Answer.{packed, answer_reply, heartbeat_reply, end_packet_reply, run};
 
-use blocks::{Block, Place};
 use lent_log::Log;
 use wire::datagram::LIMIT;
 use wire::kinds::Sequence;
 use wire::refusal::Refusal;
 
 // Blocks one after the other: how many, and the place where the last of them ends.
-#[derive(Clone, Copy)]
+#[derive(Clone, Copy, Debug, PartialEq, Eq)]
 struct Run {
     count: u16,
     end: usize,
@@ -27,74 +26,60 @@ fn measure(s: &[u8], at: usize, count: u16) -> Run
     ensures { result ≡ run s.now at at 0 count }
 {
     let mut end = at;
-    let mut k = 0;
-    while k < count {
+    for k in 0..count {
         match blocks::next(s, end) {
-            Block::At {
-                start: _,
-                length: _,
-                next,
-            } => {
-                if LIMIT - 7 < next - at {
-                    return Run { count: k, end };
-                }
-                end = next;
-                k += 1;
-            }
-            Block::Refused(_) => {
-                return Run { count: k, end };
-            }
+            Ok(block) if block.next - at <= LIMIT - 7 => end = block.next,
+            _ => return Run { count: k, end },
         }
     }
-    Run { count: k, end }
+    Run { count, end }
 }
 
 // Sends messages that the log has, from a number on: as many as one packet can carry.
-fn send(log: Log, bytes: &[u8], first: Sequence, count: u16, out: &mut [u8]) -> Result<usize, Refusal>
+fn send(
+    log: Log,
+    bytes: &[u8],
+    first: Sequence,
+    count: u16,
+    out: &mut [u8],
+) -> Result<usize, Refusal>
     requires { (hangs log bytes.now ≡ true) × (0 < first.0) × (first.0 ≤ log.count) × (limit ≤ length out.old) }
     ensures { Settled (taken (write (packed (messages_in log bytes.now) first.0 count)))
         out.old result out.new }
 {
-    let used = log.used;
-    let held = &bytes[..used];
-    let number = first.0;
-    match blocks::skip(held, 0, number - 1) {
-        Place::At(at) => {
-            let run = measure(held, at, count);
-            let end = run.end;
-            ufo_write::write_messages(first, run.count, &held[at..end], out)
-        }
-        Place::Refused(n) => Err(n),
-    }
+    let held = &bytes[..log.used];
+    let at = blocks::skip(held, 0, first.0 - 1)?;
+    let run = measure(held, at, count);
+    ufo_write::write_messages(first, run.count, &held[at..run.end], out)
 }
 
 // Answers a request for `count` messages from number `first` on.
-pub fn answer(log: Log, bytes: &[u8], first: Sequence, count: u16, out: &mut [u8]) -> Result<usize, Refusal>
+pub fn answer(
+    log: Log,
+    bytes: &[u8],
+    first: Sequence,
+    count: u16,
+    out: &mut [u8],
+) -> Result<usize, Refusal>
     ensures { Settled (answer_reply log bytes.now first.0 count (length out.old))
         out.old result out.new }
 {
     if !lent_log::hangs_together(log, bytes) {
         return Err(Refusal::Broken);
     }
-    let number = first.0;
-    if number == 0 {
-        return Err(Refusal::Absent);
-    }
-    if count == 0 {
+    if first.0 == 0 || count == 0 {
         return Err(Refusal::Absent);
     }
     if out.len() < LIMIT {
         return Err(Refusal::Room);
     }
-    let total = log.count;
-    if number <= total {
+    if first.0 <= log.count {
         return send(log, bytes, first, count, out);
     }
-    let ended = log.ended;
-    if ended {
-        return ufo_write::write_end(Sequence(total), out);
+    if log.ended {
+        return ufo_write::write_end(Sequence(log.count), out);
     }
-    ufo_write::write_messages(Sequence(total + 1), 0, &bytes[..0], out)
+    ufo_write::write_messages(Sequence(log.count + 1), 0, &[], out)
 }
 
 pub fn heartbeat(log: Log, bytes: &[u8], out: &mut [u8]) -> Result<usize, Refusal>
@@ -104,8 +89,7 @@ pub fn heartbeat(log: Log, bytes: &[u8], out: &mut [u8]) -> Result<usize, Refusa
     if !lent_log::hangs_together(log, bytes) {
         return Err(Refusal::Broken);
     }
-    let total = log.count;
-    ufo_write::write_messages(Sequence(total + 1), 0, &bytes[..0], out)
+    ufo_write::write_messages(Sequence(log.count + 1), 0, &[], out)
 }
 
 pub fn end_packet(log: Log, bytes: &[u8], out: &mut [u8]) -> Result<usize, Refusal>
@@ -115,10 +99,8 @@ pub fn end_packet(log: Log, bytes: &[u8], out: &mut [u8]) -> Result<usize, Refus
     if !lent_log::hangs_together(log, bytes) {
         return Err(Refusal::Broken);
     }
-    let ended = log.ended;
-    if !ended {
+    if !log.ended {
         return Err(Refusal::Contradiction);
     }
-    let total = log.count;
-    ufo_write::write_end(Sequence(total), out)
+    ufo_write::write_end(Sequence(log.count), out)
 }

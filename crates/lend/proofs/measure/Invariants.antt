@@ -5,6 +5,3 @@ use Rattle.lend.proofs.measure.Given as goal
 
 abbrev pub invariant-loop-k : goal.invariant-loop-k
 invariant-loop-k l = (l.at ≤ l.end) × (l.k ≤ l.count) × (run l.s l.at l.at 0 l.count ≡ run l.s l.at l.end l.k (l.count - l.k))
-
-abbrev pub decreases-loop-k : goal.decreases-loop-k
-decreases-loop-k l = l.count - l.k
