@@ -28,37 +28,23 @@ struct Step {
     place: Option<usize>,
 }
 
-// What one call hands out, with how the stream stands after it.
-fn call(
-    rt: &impl Print,
-    pieces: &mut Pieces,
-    buffer: &mut [u8],
-    piece: &[u8],
-    place: usize,
-) -> io::Result<Step> {
-    match soup_pieces::take(*pieces, buffer, piece, place) {
-        // A refused packet has bytes, and a refused call has none.
-        Err(why) => {
-            page::refused(rt, why)?;
-            Ok(Step {
-                put: 0,
-                place: None,
-            })
-        }
-        Ok(Taken::UsedUp { after }) => {
+// Tells what a call hands out.
+fn told(rt: &impl Print, taken: Taken, buffer: &[u8], pieces: &mut Pieces) -> io::Result<Step> {
+    match taken {
+        Taken::UsedUp { after } => {
             *pieces = after;
             Ok(Step {
                 put: after.kept,
                 place: None,
             })
         }
-        Ok(Taken::Packet {
+        Taken::Packet {
             packet,
             number,
             bytes,
             place,
             after,
-        }) => {
+        } => {
             *pieces = after;
             soup_packets::tell(rt, packet, buffer.get(..bytes).unwrap_or(&[]))?;
             if let Some(number) = number {
@@ -69,12 +55,12 @@ fn call(
                 place: Some(place),
             })
         }
-        Ok(Taken::Unfit {
+        Taken::Unfit {
             why,
             bytes,
             place,
             after,
-        }) => {
+        } => {
             *pieces = after;
             page::refused(rt, why)?;
             print!(rt; ", bytes {bytes}")?;
@@ -87,9 +73,39 @@ fn call(
     }
 }
 
+// A refused packet has bytes, and a refused call has none.
+fn call(
+    rt: &impl Print,
+    pieces: &mut Pieces,
+    buffer: &mut [u8],
+    piece: &[u8],
+    place: usize,
+) -> io::Result<Step> {
+    match soup_pieces::take(*pieces, buffer, piece, place) {
+        Ok(taken) => told(rt, taken, buffer, pieces),
+        Err(why) => {
+            page::refused(rt, why)?;
+            Ok(Step {
+                put: 0,
+                place: None,
+            })
+        }
+    }
+}
+
 // Behind what was put at its start a call leaves the buffer as it was.
-fn untouched(rt: &impl Print, before: &[u8; ROOM], buffer: &[u8; ROOM], put: usize) -> io::Result<()> {
-    if before.iter().zip(buffer).skip(put).any(|(was, is)| was != is) {
+fn untouched(
+    rt: &impl Print,
+    before: &[u8; ROOM],
+    buffer: &[u8; ROOM],
+    put: usize,
+) -> io::Result<()> {
+    if before
+        .iter()
+        .zip(buffer)
+        .skip(put)
+        .any(|(was, is)| was != is)
+    {
         return print!(rt; "\n= touched");
     }
     Ok(())
