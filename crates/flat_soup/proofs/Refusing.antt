@@ -27,7 +27,7 @@ use Rattle.flat_packet.proofs.Refusing.{opened, unknown, beyond}
 -- a line of an unknown type; and one that goes on with a body
 module _ (A : Type 0) (d : List ℕ) (room : ℕ) where
   unknown-line : (size : ℕ) → length d ≡ size → 0 < size
-      → unfit line_limit size 3 ≡ settle {A = A} (opened (1 at_most length d) line_limit d (refused UnknownType)) d room
+      → unfit line_limit size UnknownType ≡ settle {A = A} (opened (1 at_most length d) line_limit d (refused UnknownType)) d room
   unknown-line size l h = unknown A d room (1 at_most length d) line_limit size (le-leb 1 (length d) (omega arith)) l
 
   beyond-line : (size : ℕ) (body : List ℕ) (reply : Reply) (v : Verdict A) → length d ≡ size + length body → 0 < length body
@@ -42,7 +42,7 @@ module _ (p : Packet) (body : List ℕ) (room : ℕ) where
 
   -- a type that is none of the ten
   module _ (u : Unknown p.kind) where
-    pub unknown-reply : soup_reply p body room ≡ unfit line_limit (2 + length body) 3
+    pub unknown-reply : soup_reply p body room ≡ unfit line_limit (2 + length body) UnknownType
     unfolding soup_reply soup_bare
     unknown-reply = rw (
       u.debug,

@@ -8,18 +8,19 @@ use mathlib.Core.Bool.{false}
 use lib.ListN.{length, get_or, take}
 use lib.Seq.{take_at}
 use Rattle.wire.specs.Fields.{Bytes}
-use Rattle.wire.specs.Checks.{◌is◌, taken, checked}
+use Rattle.wire.specs.Checks.{◌is◌, taken, checked, ◌told_by◌}
 use Rattle.wire.specs.Reply.{within}
+use Rattle.wire.specs.declared.refusal.Refusal.TheVariants.{UnknownType}
 use Rattle.decimal.specs.Decimal.{written}
 use Rattle.decimal.proofs.Written.{read-written, length-written}
 use Rattle.soup.specs.Packet as soup
 use Rattle.soup.specs.Packet.{line_limit, line, carries, write, Fit}
 use Rattle.soup.specs.Read.{read}
-use Rattle.soup.specs.Reading.{packet_of, reading_of}
+use Rattle.soup.specs.Reading.{packet_of}
 use Rattle.soup.specs.Spelling.{spelling, padded}
 use Rattle.soup.proofs.Lines.{payload-line, accept-found, login-found}
 use Rattle.soup.proofs.Types.{every-type}
-use Rattle.soup.proofs.Order.{all_checks, packet_in, read-by-checks, never-under-0}
+use Rattle.soup.proofs.Order.{all_checks, packet_in, read-by-checks}
 use Rattle.soup.proofs.SpeltAnew.{unspelt, same-type}
 use Rattle.soup.proofs.Exact.{written-is-read, read-is-written}
 use Rattle.soup.proofs.Spelling.{read_alike, own-spelling}
@@ -30,7 +31,7 @@ use Rattle.flat_packet.specs.Packets.{bare, named, rejected, payload as carried,
 use Rattle.flat_packet.specs.Fitting.{alone}
 use Rattle.flat_packet.proofs.Round.{body_of, Flat, padded-right-text, padded-left-text, same_name, same-user, told-as-0, Round, rounds}
 use Rattle.flat_packet.proofs.Round.{unfit-not-given, given-no-body, settled}
-use Rattle.flat_soup.specs.Reading.{flat_soup, soup_read}
+use Rattle.flat_soup.specs.Reading.{flat_soup, flat_said, soup_read}
 use Rattle.flat_soup.specs.Writing.{soup_bare, soup_reply}
 use Rattle.flat_soup.proofs.Refusing.{unknown-reply}
 
@@ -82,14 +83,14 @@ module _ (d : List ℕ) where
 module _ (d : List ℕ) (b : Bytes d) where
   round : (soup_read d).refusal ≡ 0 → Round soup_reply (spelling d) (soup_read d).packet
   round =
-      rounds Fit write (λ size v. flat_soup (reading_of v)) soup_reply
+      rounds Fit write (λ size v. flat_said (v told_by packet_of)) soup_reply
       (λ q f. let a = flat-again q f in (a.0, λ room. a.1 room ∙ rw (written-is-read q f)))
-      (spelling d) (read d) (λ q e. let l = read-is-written d q b e in (l.0, l.1)) (never-under-0 d) (λ n. refl)
+      (spelling d) (read d) (λ q e. let l = read-is-written d q b e in (l.0, l.1)) (λ why. refl)
 
   -- what holds of every packet that was read
   took : (P : Read → Type 0) → ((q : soup.Packet) → read d ≡ taken q → P (flat_soup (packet_of q))) → (soup_read d).refusal ≡ 0
       → P (soup_read d)
-  took P = told-as-0 (λ v. flat_soup (reading_of v)) P (λ n. refl) (read d) (never-under-0 d)
+  took P = told-as-0 (λ v. flat_said (v told_by packet_of)) P (λ why. refl) (read d)
 
   -- What was read, written with its body, is its spelling.
   pub read-then-written : (room : ℕ) → (soup_read d).refusal ≡ 0 → let p = (soup_read d).packet in
@@ -182,5 +183,5 @@ module _ (p : Packet) (f : Flat p) (body : List ℕ) (room : ℕ) (d : List ℕ)
         client_heartbeat = λ k. alone-as soup.client_heartbeat 2 refl (rw k at e);
         logout = λ k. alone-as soup.logout 2 refl (rw k at e);
       })
-      (λ u _. unfit-not-given line_limit (2 + length body) 3 d (sym (unknown-reply p body room u) ∙ e))
+      (λ u _. unfit-not-given line_limit (2 + length body) UnknownType d (sym (unknown-reply p body room u) ∙ e))
       refl

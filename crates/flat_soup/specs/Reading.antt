@@ -1,9 +1,10 @@
 -- What SoupTCP's reader says, laid flat.
 -- Assumes nothing.
 use Rattle.std.specs.Prelude.{ℕ, List}
+use Rattle.wire.specs.Checks.{Verdict, refused, taken, ◌told_by◌}
 use Rattle.names.specs.Names.{name_bytes, user_bytes}
 use Rattle.soup.specs.Read.{read as read_soup}
-use Rattle.soup.specs.Reading.{reading_of}
+use Rattle.soup.specs.Reading.{packet_of}
 use Rattle.soup.specs.declared.reading.Reading.{Reading}
 use Rattle.soup.specs.declared.reading.Reading.TheVariants as soup
 use Rattle.flat_packet.specs.declared.Read.{Read}
@@ -11,7 +12,6 @@ use Rattle.flat_packet.specs.Packets.{no_packet, bare, named, rejected, payload,
 
 -- the type bytes are + A J S H Z L U R O; Round shows that writing these fields again gives the packet
 abbrev pub flat_soup : Reading → Read
-flat_soup (soup.Refused n) = no_packet n
 flat_soup (soup.Debug start size) = payload 43 start size 0
 flat_soup (soup.Accept session number) = named (name_bytes session) number.0
 flat_soup (soup.Reject reason) = rejected reason
@@ -23,5 +23,10 @@ flat_soup (soup.Unsequenced start size) = payload 85 start size 0
 flat_soup soup.ClientHeartbeat = bare 82 0
 flat_soup soup.Logout = bare 79 0
 
+-- or why it can't be read
+abbrev pub flat_said : Verdict Reading → Read
+flat_said (refused why) = no_packet why
+flat_said (taken said) = flat_soup said
+
 abbrev pub soup_read : List ℕ → Read
-soup_read d = flat_soup (reading_of (read_soup d))
+soup_read d = flat_said (read_soup d told_by packet_of)

@@ -3,6 +3,7 @@
 use Rattle.std.specs.Prelude.{ℕ, ◌+◌, List, length, if◌then◌else◌}
 use Rattle.wire.specs.Checks.{◌is◌}
 use Rattle.wire.specs.Reply.{Reply}
+use Rattle.wire.specs.declared.refusal.Refusal.TheVariants.{UnknownType}
 use Rattle.soup.specs.Packet.{debug, accept, reject, sequenced, server_heartbeat, end_of_session, login, unsequenced, client_heartbeat}
 use Rattle.soup.specs.Packet.{logout}
 use Rattle.soup.specs.Packet.{line_limit}
@@ -17,7 +18,7 @@ soup_bare kind body room =
     if kind is 90 then alone line_limit 2 body (soup.reply end_of_session room) else
     if kind is 82 then alone line_limit 2 body (soup.reply client_heartbeat room) else
     if kind is 79 then alone line_limit 2 body (soup.reply logout room) else
-    unfit line_limit (2 + length body) 3
+    unfit line_limit (2 + length body) UnknownType
 
 -- and the others: + S U A J L; Round shows that what is written is read with the same fields
 unfoldable pub soup_reply : Packet → List ℕ → ℕ → Reply

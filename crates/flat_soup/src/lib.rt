@@ -23,7 +23,6 @@ fn flat_of(said: Reading) -> Read
     ensures { result ≡ flat_soup said }
 {
     match said {
-        Reading::Refused(n) => flat_packet::no_packet(n),
         Reading::Debug { start, length } => flat_packet::payload(
             b'+',
             start as u64,
@@ -62,7 +61,10 @@ fn flat_of(said: Reading) -> Read
 pub fn read(packet: &[u8]) -> Read
     ensures { result ≡ soup_read packet.now }
 {
-    flat_of(soup::reading::read(packet))
+    match soup::reading::read(packet) {
+        Ok(said) => flat_of(said),
+        Err(why) => flat_packet::no_packet(why),
+    }
 }
 
 // The types that are their byte alone.

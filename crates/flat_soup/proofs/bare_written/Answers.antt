@@ -3,6 +3,7 @@ use Prim.Native.Nat.{◌+◌}
 use native.Mathlib.Omega.{arith}
 use borrow.Author.Tests.{eq-eqb, ne_eqb}
 use lib.ListN.{length}
+use Rattle.wire.specs.declared.refusal.Refusal.TheVariants.{UnknownType, Framing}
 use Rattle.soup.specs.Packet.{line_limit}
 use Rattle.flat_soup.specs.Writing.{soup_bare}
 use Rattle.flat_packet.proofs.Unfitting.{unfits}
@@ -12,25 +13,25 @@ pub returns-then-body-ne0 : goal.returns-then-body-ne0
 unfolding soup_bare
 returns-then-body-ne0 c =
     let n = length c.args.body.now in
-    unfits _ _ line_limit (2 + n) 4 _ (rw (c.in-72.is, ne_eqb n 0 c.if-body-ne0.true)) c.unfit.ensures
+    unfits _ _ line_limit (2 + n) Framing _ (rw (c.in-72.is, ne_eqb n 0 c.if-body-ne0.true)) c.unfit.ensures
 
 pub returns-then-body-ne0-2 : goal.returns-then-body-ne0-2
 unfolding soup_bare
 returns-then-body-ne0-2 c =
     let n = length c.args.body.now in
-    unfits _ _ line_limit (2 + n) 4 _ (rw (c.in-90.is, ne_eqb n 0 c.if-body-ne0-2.true)) c.unfit-then-body-ne0-2.ensures
+    unfits _ _ line_limit (2 + n) Framing _ (rw (c.in-90.is, ne_eqb n 0 c.if-body-ne0-2.true)) c.unfit-then-body-ne0-2.ensures
 
 pub returns-then-body-ne0-3 : goal.returns-then-body-ne0-3
 unfolding soup_bare
 returns-then-body-ne0-3 c =
     let n = length c.args.body.now in
-    unfits _ _ line_limit (2 + n) 4 _ (rw (c.in-82.is, ne_eqb n 0 c.if-body-ne0-3.true)) c.unfit-then-body-ne0-3.ensures
+    unfits _ _ line_limit (2 + n) Framing _ (rw (c.in-82.is, ne_eqb n 0 c.if-body-ne0-3.true)) c.unfit-then-body-ne0-3.ensures
 
 pub returns-then-body-ne0-4 : goal.returns-then-body-ne0-4
 unfolding soup_bare
 returns-then-body-ne0-4 c =
     let n = length c.args.body.now in
-    unfits _ _ line_limit (2 + n) 4 _ (rw (c.in-79.is, ne_eqb n 0 c.if-body-ne0-4.true)) c.unfit-then-body-ne0-4.ensures
+    unfits _ _ line_limit (2 + n) Framing _ (rw (c.in-79.is, ne_eqb n 0 c.if-body-ne0-4.true)) c.unfit-then-body-ne0-4.ensures
 
 pub returns-else-body-ne0 : goal.returns-else-body-ne0
 unfolding soup_bare
@@ -62,6 +63,6 @@ returns-in_default c =
     let a = c.args in
     let k = a.kind in
     let n = length a.body.now in
-    unfits _ _ line_limit (2 + n) 3 _
+    unfits _ _ line_limit (2 + n) UnknownType _
     (rw (ne_eqb k 72 (omega arith), ne_eqb k 90 (omega arith), ne_eqb k 82 (omega arith), ne_eqb k 79 (omega arith)))
     c.unfit-in_default.ensures

@@ -3,6 +3,7 @@ use Prim.Native.Nat.{◌+◌}
 use native.Mathlib.Omega.{arith}
 use borrow.Author.Tests.{eq-eqb, ne_eqb}
 use lib.ListN.{length}
+use Rattle.wire.specs.declared.refusal.Refusal.TheVariants.{Framing}
 use Rattle.soup.specs.Packet.{line_limit}
 use Rattle.flat_soup.specs.Writing.{soup_reply}
 use Rattle.flat_packet.proofs.Unfitting.{unfits}
@@ -12,19 +13,19 @@ pub returns-then-body-ne0 : goal.returns-then-body-ne0
 unfolding soup_reply
 returns-then-body-ne0 c =
     let n = length c.args.body.now in
-    unfits _ _ line_limit (32 + n) 4 _ (rw (c.in-65.is, ne_eqb n 0 c.if-body-ne0.true)) c.unfit.ensures
+    unfits _ _ line_limit (32 + n) Framing _ (rw (c.in-65.is, ne_eqb n 0 c.if-body-ne0.true)) c.unfit.ensures
 
 pub returns-then-body-ne0-2 : goal.returns-then-body-ne0-2
 unfolding soup_reply
 returns-then-body-ne0-2 c =
     let n = length c.args.body.now in
-    unfits _ _ line_limit (3 + n) 4 _ (rw (c.in-74.is, ne_eqb n 0 c.if-body-ne0-2.true)) c.unfit-then-body-ne0-2.ensures
+    unfits _ _ line_limit (3 + n) Framing _ (rw (c.in-74.is, ne_eqb n 0 c.if-body-ne0-2.true)) c.unfit-then-body-ne0-2.ensures
 
 pub returns-then-body-ne0-3 : goal.returns-then-body-ne0-3
 unfolding soup_reply
 returns-then-body-ne0-3 c =
     let n = length c.args.body.now in
-    unfits _ _ line_limit (48 + n) 4 _ (rw (c.in-76.is, ne_eqb n 0 c.if-body-ne0-3.true)) c.unfit-then-body-ne0-3.ensures
+    unfits _ _ line_limit (48 + n) Framing _ (rw (c.in-76.is, ne_eqb n 0 c.if-body-ne0-3.true)) c.unfit-then-body-ne0-3.ensures
 
 pub returns-in-43 : goal.returns-in-43
 unfolding soup_reply
