@@ -12,7 +12,7 @@ use lib.Dec.{leb}
 use lib.ListN.{length}
 use Rattle.wire.specs.Checks.{◌at_most◌, refused}
 use Rattle.wire.specs.Reply.{settle}
-use Rattle.wire.specs.declared.refusal.Refusal.TheVariants.{Overlong, Framing, Form}
+use Rattle.wire.specs.declared.refusal.Refusal.TheVariants.{Overlong, UnknownType, Framing, Form}
 use Rattle.wire.proofs.Tests.{leb-same}
 use Rattle.memx.specs.Packet as memx
 use Rattle.memx.specs.Packet.{limit, headed}
@@ -25,7 +25,7 @@ use Rattle.flat_memx.specs.Writing.{memx_reply}
 -- one of two refusals stands
 either-stands : (small few : Bool) (d : List ℕ) (room : ℕ)
     → settle {A = memx.Packet} (if small then if few then refused Framing else refused Form else refused Overlong) d room
-    ≡ (if small then refused (if few then 4 else Form) else refused Overlong)
+    ≡ (if small then refused (if few then Framing else Form) else refused Overlong)
 either-stands true true d room = refl
 either-stands true false d room = refl
 either-stands false few d room = refl
@@ -34,14 +34,14 @@ module _ (p : Packet) (extra body : List ℕ) (room : ℕ) where
   abbrev size : ℕ
   size = 18 + length extra + length body
 
-  pub unknown-type : 2 < p.kind → memx_reply p extra body room ≡ unfit limit size 3
+  pub unknown-type : 2 < p.kind → memx_reply p extra body room ≡ unfit limit size UnknownType
   unfolding memx_reply
   unknown-type u =
       rw (ne_eqb p.kind 2 (λ e. omega arith), headed-verdict p.kind p.session p.number extra body, lt-leb p.kind 2 u)
-      (sym (stands memx.Packet (headed p.kind p.session p.number extra body) room (leb size limit) 3))
+      (sym (stands memx.Packet (headed p.kind p.session p.number extra body) room (leb size limit) UnknownType))
 
   pub news-with-body : p.session < 2 ^ 64 → p.number < 2 ^ 64 → p.kind ≤ 1 → 0 < length body
-      → memx_reply p extra body room ≡ unfit limit size (if length extra at_most 237 then 4 else Form)
+      → memx_reply p extra body room ≡ unfit limit size (if length extra at_most 237 then Framing else Form)
   unfolding memx_reply
   news-with-body s n k b =
       let other = ne_eqb p.kind 2 (λ e. omega arith) in

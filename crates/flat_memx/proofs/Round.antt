@@ -9,7 +9,7 @@ use native.Mathlib.Omega.{arith}
 use borrow.Author.Tests.{leb-true, eqb-true, eqb-false}
 use lib.ListN.{length, get_or, take, drop}
 use Rattle.wire.specs.Fields.{Bytes}
-use Rattle.wire.specs.Checks.{◌is◌, Verdict, refused, taken}
+use Rattle.wire.specs.Checks.{◌is◌, Verdict, refused, taken, ◌told_by◌}
 use Rattle.wire.specs.Reply.{within, settle}
 use Rattle.wire.proofs.Checks.{chosen, not-both}
 use Rattle.wire.proofs.Settling.{within-taken}
@@ -17,7 +17,7 @@ use Rattle.blocks.specs.Blocks.{frames}
 use Rattle.blocks.proofs.Counting.{count_cut}
 use Rattle.memx.specs.Packet as memx
 use Rattle.memx.specs.Packet.{headed, laid, write}
-use Rattle.memx.specs.Read.{header_checks, news_checks, messages_checks, news, read_news, read_messages, read}
+use Rattle.memx.specs.Read.{news, read}
 use Rattle.memx.specs.Reading.{memx_of}
 use Rattle.memx.proofs.Header.{extra-stands, length-laid, blocks-laid}
 use Rattle.memx.proofs.Verdicts.{headed_checks, rest_checks, blocks_checks, news-verdict, laid-verdict}
@@ -26,19 +26,11 @@ use Rattle.memx_write.specs.Writing.{sent, reply}
 use Rattle.flat_packet.specs.declared.Packet.{Packet}
 use Rattle.flat_packet.specs.declared.Read.{Read}
 use Rattle.flat_packet.specs.Packets.{broadcast}
-use Rattle.wire.proofs.Numbered.{never-checked, never-taken, never-either}
 use Rattle.flat_packet.proofs.Round.{body_of, Flat, told-as-0, settled, blocks_behind, broadcast-blocks, body-behind}
 use Rattle.flat_memx.specs.Reading.{flat_memx, memx_read}
 use Rattle.flat_memx.specs.Writing.{memx_reply}
 
 -- ---- what was read
-
--- no refusal is told as 0
-never-0 : (d : List ℕ) → read d ≡ refused 0 → ⊥
-unfolding read read_news read_messages
-never-0 d =
-    never-checked (header_checks d) _ refl
-    (never-either (get_or d 0 0 is 2) _ _ (never-taken (messages_checks d) _ refl) (never-taken (news_checks d) _ refl))
 
 -- the extra bytes of a packet, by their number
 abbrev pub extra_of : Packet → List ℕ → List ℕ
@@ -49,7 +41,7 @@ abbrev Again : List ℕ → Packet → Type 0
 Again d p = (p.kind ≡ get_or d 0 0) × ((room : ℕ) → memx_reply p (extra_of p d) (body_of p d) room ≡ within room d)
 
 -- so with a lawful packet that was laid flat
-flat-again : (q : memx.Packet) → let p = (flat_memx (length (write q)) (memx_of (taken q))).packet in
+flat-again : (q : memx.Packet) → let p = (flat_memx (length (write q)) (taken (memx_of q))).packet in
     (p.kind ≡ get_or (write q) 0 0) × ((room : ℕ) → memx_reply p (extra_of p (write q)) (body_of p (write q)) room ≡ reply q room)
 unfolding memx_reply write headed
 flat-again (memx.heartbeat session highest extra) = (refl, λ room. rw (extra-stands 0 session highest extra []))
@@ -66,11 +58,11 @@ flat-again (memx.messages session first extra ms) =
 module _ (d : List ℕ) (b : Bytes d) where
   round : (memx_read d).refusal ≡ 0 → Again d (memx_read d).packet
   round =
-      told-as-0 (λ v. flat_memx (length d) (memx_of v)) (λ r. Again d r.packet) (λ n. refl) (read d) (never-0 d)
+      told-as-0 (λ v. flat_memx (length d) (v told_by memx_of)) (λ r. Again d r.packet) (λ why. refl) (read d)
       (λ q e.
       let f = read-is-written d b q e in
       let a = flat-again q in
-      let again : Again (write q) (flat_memx (length (write q)) (memx_of (taken q))).packet =
+      let again : Again (write q) (flat_memx (length (write q)) (taken (memx_of q))).packet =
       (a.0, λ room. a.1 room ∙ rw (written-is-read q f.0)) in
       rw (← f.1) again)
 
@@ -100,9 +92,9 @@ module _ (p : Packet) (f : Flat p) (extra body : List ℕ) (room : ℕ) (d : Lis
 
   -- heartbeat and shutdown are told by their type
   news-told : (kind : ℕ) → kind ≤ 1
-      → flat_memx (length d) (memx_of (taken (news kind p.session p.number extra))) ≡ kept_as kind p extra body
+      → flat_memx (length d) (taken (memx_of (news kind p.session p.number extra))) ≡ kept_as kind p extra body
   news-told =
-      of_two (λ k. flat_memx (length d) (memx_of (taken (news k p.session p.number extra))) ≡ kept_as k p extra body) refl refl
+      of_two (λ k. flat_memx (length d) (taken (memx_of (news k p.session p.number extra))) ≡ kept_as k p extra body) refl refl
 
   news-as : (p.kind is 2) ≡ false → sent (headed p.kind p.session p.number extra body) room ≡ taken d → As p.kind
   news-as k e =

@@ -4,6 +4,7 @@
 ghost use Rattle.std.specs.Prelude.{◌≡◌, length, if◌then◌else◌};
 ghost use Rattle.wire.specs.Checks.{◌at_most◌};
 ghost use Rattle.wire.specs.Reply.{Settled};
+ghost use Rattle.wire.specs.declared.refusal.Refusal.TheVariants.{Framing, Form};
 ghost use Rattle.flat.specs.Wrote.{FlatSettled};
 ghost use Rattle.flat_memx.specs.Reading.{flat_memx, memx_read};
 ghost use Rattle.flat_memx.specs.Writing.{memx_reply};
@@ -13,34 +14,31 @@ use flat::wrote::Wrote;
 use flat_packet::fitting::unfit;
 use flat_packet::{Packet, Read};
 use memx::layout;
-use memx::reading::Memx;
+use memx::layout::Kind;
+use memx::reading::{Memx, Says};
 use wire::kinds::{Sequence, SessionId};
 use wire::refusal::Refusal;
 
 // The packet has `size` bytes.
-fn flat_of(said: Memx, size: u64) -> Read
+fn flat_of(said: Result<Memx, Refusal>, size: u64) -> Read
     ensures { result ≡ flat_memx size said }
 {
-    match said {
-        Memx::Refused(n) => flat_packet::no_packet(n),
-        Memx::Heartbeat {
+    let packet = match said {
+        Err(why) => return flat_packet::no_packet(why),
+        Ok(packet) => packet,
+    };
+    let session = packet.session.0;
+    let extra = packet.extra;
+    match packet.says {
+        Says::Heartbeat(highest) => {
+            flat_packet::broadcast(Kind::Heartbeat.byte(), session, highest.0, 0, extra, 0, 0)
+        }
+        Says::Shutdown(highest) => {
+            flat_packet::broadcast(Kind::Shutdown.byte(), session, highest.0, 0, extra, 0, 0)
+        }
+        Says::Messages { first, count } => flat_packet::broadcast(
+            Kind::Messages.byte(),
             session,
-            highest,
-            extra,
-        } => flat_packet::broadcast(layout::HEARTBEAT, session.0, highest.0, 0, extra, 0, 0),
-        Memx::Shutdown {
-            session,
-            highest,
-            extra,
-        } => flat_packet::broadcast(layout::SHUTDOWN, session.0, highest.0, 0, extra, 0, 0),
-        Memx::Messages {
-            session,
-            first,
-            count,
-            extra,
-        } => flat_packet::broadcast(
-            layout::MESSAGES,
-            session.0,
             first.0,
             count,
             extra,
@@ -57,37 +55,36 @@ pub fn read(packet: &[u8]) -> Read
 }
 
 // Why a heartbeat or shutdown can't have a body, if the packet is not over the limit.
-fn bodiless(extra: &[u8]) -> u8
-    ensures { result ≡ (if length extra.now at_most 237 then 4 else 5) }
+fn bodiless(extra: &[u8]) -> Refusal
+    ensures { result ≡ (if length extra.now at_most 237 then Framing else Form) }
 {
     if layout::MOST_EXTRA < extra.len() {
-        return Refusal::Form;
+        Refusal::Form
+    } else {
+        Refusal::Framing
     }
-    Refusal::Framing
 }
 
 fn written(fields: Packet, extra: &[u8], body: &[u8], out: &mut [u8]) -> Result<usize, Refusal>
     ensures { Settled (memx_reply fields extra.now body.now (length out.old))
         out.old result out.new }
 {
-    let kind = fields.kind;
     let session = SessionId(fields.session);
     let number = Sequence(fields.number);
-    let count = fields.count;
     let header = layout::HEADER + extra.len();
-    if kind == layout::MESSAGES {
-        return memx_write::write_messages(session, number, count, extra, body, out);
-    }
-    if layout::MESSAGES < kind {
-        return unfit(layout::LIMIT, header, body, Refusal::UnknownType);
-    }
-    if body.len() != 0 {
+    let kind = match Kind::try_from(fields.kind) {
+        Err(why) => return unfit(layout::LIMIT, header, body, why),
+        Ok(kind) => kind,
+    };
+    if kind != Kind::Messages && !body.is_empty() {
         return unfit(layout::LIMIT, header, body, bodiless(extra));
     }
-    if kind == layout::HEARTBEAT {
-        memx_write::write_heartbeat(session, number, extra, out)
-    } else {
-        memx_write::write_shutdown(session, number, extra, out)
+    match kind {
+        Kind::Heartbeat => memx_write::write_heartbeat(session, number, extra, out),
+        Kind::Shutdown => memx_write::write_shutdown(session, number, extra, out),
+        Kind::Messages => {
+            memx_write::write_messages(session, number, fields.count, extra, body, out)
+        }
     }
 }
 
