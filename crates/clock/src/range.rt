@@ -8,7 +8,7 @@ pub(crate) const MINUTE: f64 = 60_000.0;
 pub(crate) fn is_between(low: f64, x: f64, high: f64) -> bool
     ensures { result ≡ between low x high }
 {
-    (low <= x) & (x <= high)
+    low <= x && x <= high
 }
 
 pub(crate) fn is_lawful(x: f64) -> bool

@@ -17,11 +17,7 @@ pub struct Sheet {
 pub fn is_sound(sheet: Sheet) -> bool
     ensures { result ≡ sound sheet }
 {
-    if sheet.timed {
-        is_lawful(sheet.mean) & is_lawful(sheet.spread)
-    } else {
-        true
-    }
+    !sheet.timed || is_lawful(sheet.mean) && is_lawful(sheet.spread)
 }
 
 fn distance(mean: f64, sample: f64) -> f64
