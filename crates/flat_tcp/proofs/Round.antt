@@ -6,14 +6,15 @@ use mathlib.Core.Path.{◌≡◌, refl}
 use mathlib.Core.Bool.{true}
 use mathlib.Core.List.{List, [], ◌∷◌, map}
 use native.Mathlib.Omega.{arith}
-use borrow.Author.Tests.{eqb-true}
+use borrow.Author.Tests.{eqb-true, eqb-false}
 use lib.ListN.{length, get_or, take, drop, drop_of_length-le}
 use lib.Seq.{take-length}
 use Rattle.wire.specs.Fields.{Bytes}
-use Rattle.wire.specs.Checks.{◌is◌, Verdict, refused, taken}
+use Rattle.wire.specs.Checks.{◌is◌, Verdict, refused, taken, ◌told_by◌}
+use Rattle.wire.specs.Refusals.{number_of}
 use Rattle.wire.specs.Reply.{within}
 use Rattle.wire.proofs.Checks.{all-passed, taken-same}
-use Rattle.wire.proofs.Numbered.{never-taken}
+use Rattle.wire.proofs.Numbered.{has-number}
 use Rattle.wire.proofs.Tests.{by-test}
 use Rattle.memx_tcp.specs.Layout.{◌is_one_of◌, known, fields_of as layout_of, most_of, size}
 use Rattle.memx_tcp.specs.Packet.{Packet, header_size, write}
@@ -36,11 +37,6 @@ body_of p d = take p.length (drop p.start d)
 
 -- ---- what was read
 
--- no refusal is told as 0
-never-0 : (d : List ℕ) → read d ≡ refused 0 → ⊥
-unfolding read
-never-0 d = never-taken (checks d) (packet_in d) refl
-
 module _ (d : List ℕ) (q : Packet) (e : read d ≡ taken q) where
   same : packet_in d ≡ q
   unfolding read
@@ -61,7 +57,7 @@ module _ (d : List ℕ) (q : Packet) (e : read d ≡ taken q) where
       (λ z. rw z (take-length (drop (end_in d) d)))
 
   -- the fields laid flat are those of the packet
-  again : let p = (flat_tcp (tcp_of (taken (packet_in d)))).packet in packet_of (fields_of p) (body_of p d) ≡ packet_in d
+  again : let p = (flat_tcp (taken (tcp_of (packet_in d)))).packet in packet_of (fields_of p) (body_of p d) ≡ packet_in d
   again =
       let n = named_again (kind_in d) (drop header_size d) in
       rw (body, n.1, n.0)
@@ -71,8 +67,8 @@ abbrev Round : List ℕ → FlatTcp → Type 0
 Round d p = (p.kind ≡ kind_in d) × ((room : ℕ) → tcp_reply p (body_of p d) room ≡ within room d)
 
 module _ (d : List ℕ) (b : Bytes d) where
-  round : (v : Verdict Packet) → read d ≡ v → (flat_tcp (tcp_of v)).refusal ≡ 0 → Round d (flat_tcp (tcp_of v)).packet
-  round (refused n) r e = let z : n ≡ 0 = e in absurd (never-0 d (rw (← z) r))
+  round : (v : Verdict Packet) → read d ≡ v → (flat_tcp (v told_by tcp_of)).refusal ≡ 0 → Round d (flat_tcp (v told_by tcp_of)).packet
+  round (refused why) r e = absurd (eqb-false (number_of why) 0 (has-number why) e)
   round (taken q) r e =
       let s = same d q r in
       let n = named_again (kind_in d) (drop header_size d) in
@@ -116,7 +112,7 @@ kept p body = kept_as p.kind p body
 module _ (p : FlatTcp) (body : List ℕ) where
   -- what the reader tells of these fields, were the packet of the type k
   abbrev As : ℕ → Type 0
-  As k = flat_tcp (tcp_of (taken (record { kind = k; values = map (under (fields_of p)) (layout_of k); tail = body }))) ≡ kept_as k p body
+  As k = flat_tcp (taken (tcp_of (record { kind = k; values = map (under (fields_of p)) (layout_of k); tail = body }))) ≡ kept_as k p body
 
   told-as : (k : ℕ) → known k ≡ true → As k
   unfolding layout_of most_of size fields_by

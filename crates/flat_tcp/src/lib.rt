@@ -10,6 +10,7 @@ use flat::wrote::Wrote;
 use memx_tcp::packet::Fields;
 use memx_tcp::reading::Tcp;
 use wire::kinds::{Sequence, SessionId};
+use wire::refusal::Refusal;
 
 // kind: the type byte of the wire. The fields that the type lacks are 0.
 #[repr(C)]
@@ -32,12 +33,12 @@ pub struct FlatTcpReading {
     pub packet: FlatTcp,
 }
 
-fn flat_of(said: Tcp) -> FlatTcpReading
+fn flat_of(said: Result<Tcp, Refusal>) -> FlatTcpReading
     ensures { result ≡ flat_tcp said }
 {
     match said {
-        Tcp::Refused(number) => FlatTcpReading {
-            refusal: number as u64,
+        Err(why) => FlatTcpReading {
+            refusal: why.number() as u64,
             packet: FlatTcp {
                 kind: 0,
                 letter: 0,
@@ -49,11 +50,13 @@ fn flat_of(said: Tcp) -> FlatTcpReading
                 length: 0,
             },
         },
-        Tcp::Packet {
-            fields,
-            start,
-            length,
-        } => FlatTcpReading {
+        Ok(
+            Tcp {
+                fields,
+                start,
+                length,
+            },
+        ) => FlatTcpReading {
             refusal: 0,
             packet: FlatTcp {
                 kind: fields.kind,

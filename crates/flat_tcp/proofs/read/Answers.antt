@@ -1,4 +1,0 @@
-use Rattle.flat_tcp.proofs.read.Goals as goal
-
-pub returns : goal.returns
-returns c = rw (c.flat_of.ensures, c.read.ensures)
