@@ -5,13 +5,14 @@ use mathlib.Core.List.{List, [], ◌∷◌, ◌++◌}
 use mathlib.Core.Path.{◌≡◌, refl, ◌∙◌}
 use mathlib.Core.Bool.{Bool, true, false}
 use native.Mathlib.Omega.{arith}
-use borrow.Author.Tests.{le-leb, lt-leb, ne_eqb, leb-true, leb-false}
+use borrow.Author.Tests.{le-leb, lt-leb, ne_eqb}
 use lib.Dec.{leb}
 use lib.ListN.{length, take, length-append, length-take}
 use Rattle.wire.specs.Fields.{Bytes}
 use Rattle.wire.specs.Checks.{Verdict, refused, taken, ◌else◌, checked, ◌into◌}
 use Rattle.wire.specs.Reply.{within, settle}
 use Rattle.wire.specs.Datagram.{limit}
+use Rattle.wire.specs.declared.refusal.Refusal.{Refusal}
 use Rattle.wire.specs.declared.refusal.Refusal.TheVariants.{Overlong, Framing, Bound}
 use Rattle.wire.proofs.Tests.{by-test, leb-same}
 use Rattle.wire.proofs.Width.{bytes_take, length-bytes_of}
@@ -74,10 +75,9 @@ module _ (out : List ℕ) (used : ℕ) (g : Begun out used) where
   begun-short = rw length_so_far at so-far-lawful.short
 
   module _ (m : Message) where
-    pub add-over : leb (length (frame (write_message m))) (limit - used) ≡ false → add_reply m out used ≡ refused Overlong
+    pub add-over : limit - used < length (frame (write_message m)) → add_reply m out used ≡ refused Overlong
     unfolding add_reply verdict_after
-    add-over t =
-        let l = leb-false (length (frame (write_message m))) (limit - used) t in
+    add-over l =
         let n = length_so_far in
         let k = length-capped m in
         let s = begun-short in
@@ -87,12 +87,11 @@ module _ (out : List ℕ) (used : ℕ) (g : Begun out used) where
           read-over (take used out) (write_message (capped_in m)) (omega (arith, length-frame (write_message m))),
         )
 
-    pub add-behind : leb (length (frame (write_message m))) (limit - used) ≡ true
+    pub add-behind : length (frame (write_message m)) ≤ limit - used
         → add_reply m out used ≡ reply m (length out - used) into (λ b. taken (take used out ++ b))
     unfolding add_reply verdict_after reply verdict
-    add-behind t =
+    add-behind l =
         let w = write_message (capped_in m) in
-        let l = leb-true (length (frame (write_message m))) (limit - used) t in
         let f = length-frame (write_message m) in
         let n = length_so_far in
         let k = length-capped m in
@@ -118,6 +117,6 @@ module _ (m : Message) (out : List ℕ) (used : ℕ) where
   unfolding add_reply
   add-past h = rw (lt-leb used (length out) h)
 
-  pub add-refused : (n : ℕ) → used ≤ length out → so_far (take used out) ≡ refused n → add_reply m out used ≡ refused n
+  pub add-refused : (why : Refusal) → used ≤ length out → so_far (take used out) ≡ refused why → add_reply m out used ≡ refused why
   unfolding add_reply
   add-refused n h e = rw (le-leb used (length out) h, e)

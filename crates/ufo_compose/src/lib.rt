@@ -2,15 +2,14 @@
 #![tactic(auto)]
 
 ghost use Rattle.std.specs.Prelude.{◌≡◌, length};
-ghost use Rattle.wire.specs.Checks.{◌at_most◌};
+ghost use Rattle.wire.specs.Checks.{◌told_by◌};
 ghost use Rattle.wire.specs.Reply.{Settled};
 ghost use Rattle.blocks.specs.Blocks.{frame};
-ghost use Rattle.ufo_up.specs.Up.{write_message, upstream_of};
+ghost use Rattle.ufo_up.specs.Up.{write_message};
 ghost use Rattle.ufo_up_write.specs.WriteUp.{reply};
 ghost use Rattle.ufo_compose.specs.Compose.{message_of, so_far, add_reply};
 
 use ufo_up::up;
-use ufo_up::up::Upstream;
 use wire::datagram::LIMIT;
 use wire::kinds::{Name, Password, Sequence, User};
 use wire::refusal::Refusal;
@@ -32,25 +31,15 @@ pub enum Message {
     Logout,
 }
 
-// Whether a message's block has at most `room` bytes.
-fn fits(message: Message, data: &[u8], room: usize) -> bool
-    ensures { result ≡ length (frame (write_message (message_of message «data».now))) at_most room }
+// How many bytes a message's block has.
+fn size_of(message: Message, data: &[u8]) -> usize
+    ensures { result ≡ length (frame (write_message (message_of message «data».now))) }
 {
     match message {
-        Message::Login {
-            user: _,
-            password: _,
-            session: _,
-        } => 29 <= room,
-        Message::Request { first: _, count: _ } => 9 <= room,
-        Message::Unsequenced => {
-            if room < 3 {
-                return false;
-            }
-            data.len() <= room - 3
-        }
-        Message::Heartbeat => 3 <= room,
-        Message::Logout => 3 <= room,
+        Message::Login { .. } => 29,
+        Message::Request { .. } => 9,
+        Message::Unsequenced => 3 + data.len(),
+        Message::Heartbeat | Message::Logout => 3,
     }
 }
 
@@ -72,35 +61,35 @@ fn write_message(message: Message, data: &[u8], out: &mut [u8]) -> Result<usize,
     }
 }
 
-// The packet so far, which may be nothing yet.
-pub fn read_so_far(s: &[u8]) -> Upstream
-    ensures { result ≡ upstream_of (so_far s.now) }
+// How many messages the packet so far has, which may be nothing yet.
+pub fn read_so_far(s: &[u8]) -> Result<usize, Refusal>
+    ensures { result ≡ so_far s.now told_by length }
 {
     if s.len() == 0 {
-        return Upstream::Messages(0);
+        return Ok(0);
     }
     up::read_up(s)
 }
 
 // The output's first `used` bytes are a packet so far, or nothing; the message is written behind them, and the answer counts
 // the whole. `data` is what an unsequenced message carries: for any other it is not looked at.
-pub fn add_message(message: Message, data: &[u8], out: &mut [u8], used: usize) -> Result<usize, Refusal>
+pub fn add_message(
+    message: Message,
+    data: &[u8],
+    out: &mut [u8],
+    used: usize,
+) -> Result<usize, Refusal>
     ensures { Settled (add_reply (message_of message «data».now) out.old used)
         out.old result out.new }
 {
     if out.len() < used {
         return Err(Refusal::Framing);
     }
-    match read_so_far(&out[..used]) {
-        Upstream::Refused(n) => Err(n),
-        Upstream::Messages(_) => {
-            if !fits(message, data, LIMIT - used) {
-                return Err(Refusal::Overlong);
-            }
-            match write_message(message, data, &mut out[used..]) {
-                Err(n) => Err(n),
-                Ok(n) => Ok(used + n),
-            }
-        }
+    read_so_far(&out[..used])?;
+    let room = LIMIT - used;
+    if room < size_of(message, data) {
+        return Err(Refusal::Overlong);
     }
+    let added = write_message(message, data, &mut out[used..])?;
+    Ok(used + added)
 }

@@ -6,11 +6,11 @@ use mathlib.Core.Path.{◌≡◌, refl, sym}
 use mathlib.Core.Bool.{true, true≢false}
 use borrow.Author.Tests.{le-leb, ne_eqb}
 use lib.ListN.{length}
-use Rattle.wire.specs.Checks.{Verdict, refused, taken, ◌into◌}
+use Rattle.wire.specs.Checks.{Verdict, refused, taken, ◌into◌, ◌told_by◌}
 use Rattle.wire.specs.Datagram.{limit}
 use Rattle.wire.specs.declared.refusal.Refusal.{Refusal}
 use Rattle.wire.specs.declared.refusal.Refusal.TheVariants.{Framing}
-use Rattle.wire.proofs.Checks.{not-both, taken-same}
+use Rattle.wire.proofs.Checks.{not-both, taken-same, told}
 use Rattle.blocks.specs.Blocks.{Cut, torn, whole, upstream, is_whole, messages_of, count_of}
 use Rattle.ufo_up.specs.Up.{Message, read_message, read_each, read_cut, read_up}
 
@@ -47,3 +47,11 @@ each_append (b ∷ bs) more = rw (each_append bs more) (by (read_message b) (rea
   by (taken m) (refused n) w = refl
   by (taken m) (taken ms) (refused n) = refl
   by (taken m) (taken ms) (taken os) = refl
+
+-- a packet that was taken is some messages
+pub record Took (v : Verdict (List Message)) : Type 0 where
+  pub messages : List Message
+  pub is : v ≡ taken messages
+
+pub was-taken : (v : Verdict (List Message)) (k : ℕ) → v told_by length ≡ taken k → Took v
+was-taken v k e = let t = told v length k e in record { messages = t.by; is = t.was }
