@@ -125,12 +125,7 @@ impl Shelf {
         match two(&mut self.lent, message) {
             Err(why) => page::refused(rt, why),
             Ok(log) => {
-                let both = Line {
-                    word: "log",
-                    text: "give from 1 count 2",
-                    bytes: b"",
-                    mark: None,
-                };
+                let both = Line::read("log give from 1 count 2", &mut []);
                 send(rt, &both, log, &self.lent)
             }
         }
