@@ -3,10 +3,12 @@
 use Prim.Native.Nat.{ℕ}
 use mathlib.Core.List.{List, []}
 use mathlib.Core.Path.{◌≡◌, refl}
+use mathlib.Core.Logic.{◌⊎◌, inl, inr}
 use mathlib.Core.Bool.{true, false, ◌&&◌}
 use lib.ListN.{length}
-use Rattle.wire.specs.Checks.{Verdict, refused, taken, ◌into◌}
+use Rattle.wire.specs.Checks.{Verdict, refused, taken, ◌into◌, ◌told_by◌}
 use Rattle.wire.specs.Fields.{Bytes}
+use Rattle.wire.specs.declared.refusal.Refusal.{Refusal}
 use Rattle.wire.specs.declared.refusal.Refusal.TheVariants.{Broken}
 use Rattle.wire.proofs.Tests.{by-test, both}
 use Rattle.held.specs.Hanging.{in_place, sound}
@@ -17,30 +19,24 @@ use Rattle.taking.specs.Taking.{own, holding_early, Taking, reporting, taking, t
 use Rattle.taking.specs.Ways.{passing}
 use Rattle.record.specs.declared.Record.{Record}
 use Rattle.taking.specs.declared.Taken.{Taken}
-use Rattle.taking.specs.declared.Taken.TheVariants as takes
 use Rattle.taking.proofs.EarlyOrLate.{reports-none, leaves}
 use Rattle.reports.proofs.Reports.{sound as reported-soundly, SaysMessages}
 
-refuses : (v : Verdict Taking) (area out : List ℕ) (n : ℕ) → v ≡ refused n → Answered v area out (takes.Refused n) area out
-refuses v area out n e = rw e (record { answer = refl; bytes = refl; slots = refl })
+refuses : (v : Verdict Taking) (area out : List ℕ) (why : Refusal) → v ≡ refused why → Answered v area out (refused why) area out
+refuses v area out why e = rw e (record { answer = refl; bytes = refl; slots = refl })
 
 module _ (r : Record) (area d out : List ℕ) where
   abbrev said : Verdict Taking
   said = taking r area d (length out)
 
   -- what is not held hangs together or not, and then what is held
-  pub answers-broken : well_kept r ≡ false → Answered said area out (takes.Refused Broken) area out
+  pub answers-broken : (well_kept r ≡ false) ⊎ ((well_kept r ≡ true) × (in_place r.held r.next.0 r.top.0 && sound r.held area ≡ false))
+      → Answered said area out (refused Broken) area out
   unfolding taking hangs
-  answers-broken h = refuses said area out 10 (rw h)
-
-  pub answers-unwhole : in_place r.held r.next.0 r.top.0 && sound r.held area ≡ false
-      → Answered said area out (takes.Refused Broken) area out
-  unfolding taking hangs
-  answers-unwhole e =
-      refuses said area out 10
-      (by-test (well_kept r)
-      (λ w. by-test (in_place r.held r.next.0 r.top.0) (λ p. rw (w, p, rw p at e)) (λ p. rw (w, p)))
-      (λ w. rw w))
+  answers-broken (inl h) = refuses said area out Broken (rw h)
+  answers-broken (inr (w, e)) =
+      refuses said area out Broken
+      (by-test (in_place r.held r.next.0 r.top.0) (λ p. rw (w, p, rw p at e)) (λ p. rw (w, p)))
 
   pub both-hang : well_kept r ≡ true → in_place r.held r.next.0 r.top.0 && sound r.held area ≡ true
       → (hangs r ≡ true) × (sound r.held area ≡ true)
@@ -54,12 +50,13 @@ module _ (r : Record) (area d out : List ℕ) where
     unfolding taking
     goes_on v e = rw (h, s, e)
 
-    pub answers-refusal : (n : ℕ) → report_of r.session d ≡ refused n → Answered said area out (takes.Refused n) area out
-    answers-refusal n e = refuses said area out n (goes_on (refused n) e)
+    pub answers-refusal : (why : Refusal) → report_of r.session d ≡ refused why → Answered said area out (refused why) area out
+    answers-refusal why e = refuses said area out why (goes_on (refused why) e)
 
     -- a report that delivers nothing and of which nothing is held
     pub answers-none : (report : Report) → report_of r.session d ≡ taken report → own r.next.0 report ≡ []
-        → ((k : Holding) → holding_early r.next.0 k report ≡ k) → (a : Taken) → a ≡ taken_of (passing r [] (top_of report) (is_end report))
+        → ((k : Holding) → holding_early r.next.0 k report ≡ k) → (a : Verdict Taken)
+        → a ≡ (passing r [] (top_of report) (is_end report) told_by taken_of)
         → Answered said area out a area out
     answers-none report e none held a f =
         rw (goes_on (taken report) e, reports-none r area report h none (length out) held)
@@ -76,7 +73,7 @@ module _ (r : Record) (area d out : List ℕ) where
             → Fills d p first count
         by ms c q e = rw (c, q) (reported-soundly d b r.session (messages first ms) e).stand.0
 
-      pub answers-messages : Said → (a : Taken) (area_left left : List ℕ)
+      pub answers-messages : Said → (a : Verdict Taken) (area_left left : List ℕ)
           → Answered (reporting r area (length out) (messages first (blocks_from d p count))) area out a area_left left
           → Answered said area out a area_left left
       answers-messages m a area_left left f = by m.ms m.counts m.places m.report where

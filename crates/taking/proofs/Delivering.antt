@@ -8,18 +8,16 @@ use borrow.Author.Tests.{leb-true}
 use lib.ListN.{length, take, drop, length-drop, length-append}
 use lib.Seq.{sets, length-sets, take_all, drop_at, length-take-le}
 use Rattle.wire.specs.Checks.{◌at_most◌, Verdict, refused, taken, Check, ◌else◌, ◌into◌}
-use Rattle.wire.proofs.Checks.{all-passed, taken-same}
+use Rattle.wire.proofs.Checks.{all-passed, not-both, taken-same}
 use Rattle.wire.specs.Reply.{within}
 use Rattle.wire.specs.Reply as Reply
+use Rattle.wire.specs.declared.refusal.Refusal.{Refusal}
 use Rattle.wire.specs.declared.refusal.Refusal.TheVariants.{Room, Broken}
 use Rattle.wire.proofs.Settling.{stored, stored_at, refuses, lacks-room, has_room}
-use Rattle.wire.proofs.Tests.{impossible}
-use Rattle.blocks.specs.Blocks.{frames, place_after, place_of}
-use Rattle.blocks.specs.declared.Place.TheVariants as place
-use Rattle.blocks.proofs.Skipping.{not-reached}
+use Rattle.blocks.specs.Blocks.{frames, place_after}
 use Rattle.held.specs.Hanging.{sound}
-use Rattle.held.specs.Releasing.{released, releasing, Settled}
-use Rattle.held.specs.declared.releasing.Released.TheVariants as gives
+use Rattle.held.specs.Releasing.{released, releasing, released_of, Settled}
+use Rattle.held.specs.declared.releasing.Released.{Released}
 use Rattle.taking.specs.Delivering.{handed_own, Given, handed, Handed}
 
 -- one run stored behind the room of another, and then that other
@@ -38,27 +36,26 @@ stored-both a b out h =
     ∙ ap (λ (k : ℕ). (a ++ b) ++ drop k out) (sym (length-append a b))
 
 -- what was let go fits behind the place, and the output is as long as before
-pub let-fits : (held : ℕ) (area : List ℕ) (m at : ℕ) (out : List ℕ) (messages bytes : ℕ) (left : List ℕ)
-    → Settled (releasing held area m at (length out)) at out (gives.Messages messages bytes) left
-    → (at + bytes ≤ length out) × (length left ≡ length out)
-let-fits held area m at out messages bytes left g = by (releasing held area m at (length out)) refl g where
-  by : (v : Verdict (List (List ℕ))) → releasing held area m at (length out) ≡ v → Settled v at out (gives.Messages messages bytes) left
-      → (at + bytes ≤ length out) × (length left ≡ length out)
-  by (refused x) w g = impossible (cc g.answer)
-  by (taken ms) w g =
+pub let-fits : (held : ℕ) (area : List ℕ) (m at : ℕ) (out : List ℕ) (g : Released) (left : List ℕ)
+    → Settled (releasing held area m at (length out)) at out (taken g) left → (at + g.bytes ≤ length out) × (length left ≡ length out)
+let-fits held area m at out g left h = by (releasing held area m at (length out)) refl h where
+  by : (v : Verdict (List (List ℕ))) → releasing held area m at (length out) ≡ v → Settled v at out (taken g) left
+      → (at + g.bytes ≤ length out) × (length left ≡ length out)
+  by (refused x) w h = not-both (taken g) x g h.answer refl
+  by (taken ms) w h =
       let cs : List Check = (sound held area else Broken) ∷ (at + length (frames (released held area m)) at_most length out else Room) ∷ [] in
       let c = all-passed cs (taken (released held area m)) ms w in
       let same : released held area m ≡ ms = taken-same (released held area m) ms c.1 in
-      let z : bytes ≡ length (frames ms) = cc g.answer in
+      let z : g.bytes ≡ length (frames ms) = ap (λ (x : Released). x.bytes) (taken-same g (released_of ms) h.answer) in
       let fits = leb-true (at + length (frames (released held area m))) (length out) c.0.1.0 in
-      (rw (z, ← same) fits, ap length g.bytes ∙ length-sets out at (frames ms))
+      (rw (z, ← same) fits, ap length h.bytes ∙ length-sets out at (frames ms))
 
 module _ (k : ℕ) (s : List ℕ) (p held : ℕ) (area : List ℕ) (m : ℕ) (out : List ℕ) where
   abbrev said : Verdict Given
   said = handed k s p held area m (length out)
 
-  pub hands_none : (n : ℕ) → place_of (place_after k s p) ≡ place.Refused n → Handed said out (gives.Refused n) out
-  hands_none n e = rw (not-reached (place_after k s p) n e) (record { answer = refl; bytes = refl })
+  pub hands_none : (why : Refusal) → place_after k s p ≡ refused why → Handed said out (refused why) out
+  hands_none why e = rw e (record { answer = refl; bytes = refl })
 
   module _ (q : ℕ) (e : place_after k s p ≡ taken q) where
     abbrev let_go : Verdict (List (List ℕ))
@@ -67,36 +64,39 @@ module _ (k : ℕ) (s : List ℕ) (p held : ℕ) (area : List ℕ) (m : ℕ) (ou
     from-there : said ≡ let_go into λ ms. taken (record { own = drop q s; released = ms })
     from-there = rw e
 
-    pub hands-back : (n : ℕ) (left : List ℕ)
-        → Settled (releasing held area m (length s - q) (length out)) (length s - q) out (gives.Refused n) left
-        → Handed said out (gives.Refused n) left
-    hands-back n left h = rw from-there (by let_go (rw (← length-drop q s) at h)) where
-      by : (v : Verdict (List (List ℕ))) → Settled v (length (drop q s)) out (gives.Refused n) left
-          → Handed (v into λ ms. taken (record { own = drop q s; released = ms })) out (gives.Refused n) left
-      by (refused x) g = let z : n ≡ x = cc g.answer in rw z (record { answer = refl; bytes = g.bytes })
-      by (taken ms) g = impossible (cc g.answer)
+    pub hands-back : (why : Refusal) (left : List ℕ)
+        → Settled (releasing held area m (length s - q) (length out)) (length s - q) out (refused why) left
+        → Handed said out (refused why) left
+    hands-back why left h = rw from-there (by let_go (rw (← length-drop q s) at h)) where
+      by : (v : Verdict (List (List ℕ))) → Settled v (length (drop q s)) out (refused why) left
+          → Handed (v into λ ms. taken (record { own = drop q s; released = ms })) out (refused why) left
+      by (refused x) h = record { answer = h.answer; bytes = h.bytes }
+      by (taken ms) h = not-both (refused why) why (released_of ms) refl h.answer
 
-    pub hands-over : (messages bytes : ℕ) (left last : List ℕ)
-        → Settled (releasing held area m (length s - q) (length out)) (length s - q) out (gives.Messages messages bytes) left
-        → last ≡ sets left 0 (take (length s - q) (drop q s)) → Handed said out (gives.Messages messages (length s - q + bytes)) last
-    hands-over messages bytes left last g f = rw from-there (by let_go refl (rw (← length-drop q s) at g)) where
-      by : (v : Verdict (List (List ℕ))) → let_go ≡ v → Settled v (length (drop q s)) out (gives.Messages messages bytes) left
-          → Handed (v into λ ms. taken (record { own = drop q s; released = ms })) out (gives.Messages messages (length s - q + bytes)) last
-      by (refused x) w g = impossible (cc g.answer)
-      by (taken ms) w g =
-          let room = (let-fits held area m (length (drop q s)) out messages bytes left (rw w g)).0 in
+    pub hands-over : (g : Released) (left last : List ℕ)
+        → Settled (releasing held area m (length s - q) (length out)) (length s - q) out (taken g) left
+        → last ≡ sets left 0 (take (length s - q) (drop q s))
+        → Handed said out (taken (record { messages = g.messages; bytes = length s - q + g.bytes })) last
+    hands-over g left last h f = rw from-there (by let_go refl (rw (← length-drop q s) at h)) where
+      by : (v : Verdict (List (List ℕ))) → let_go ≡ v → Settled v (length (drop q s)) out (taken g) left
+          → Handed (v into λ ms. taken (record { own = drop q s; released = ms })) out
+          (taken (record { messages = g.messages; bytes = length s - q + g.bytes })) last
+      by (refused x) w h = not-both (taken g) x g h.answer refl
+      by (taken ms) w h =
+          let room = (let-fits held area m (length (drop q s)) out g left (rw w h)).0 in
           let l = length-drop q s in
           let o : take (length s - q) (drop q s) ≡ drop q s = take_all (length s - q) (drop q s) (omega arith) in
-          let n : messages ≡ length ms = cc g.answer in
-          let z : bytes ≡ length (frames ms) = cc g.answer in
-          let t : length s - q + bytes ≡ length (drop q s ++ frames ms) = rw length-append (omega arith) in
-          record { answer = rw (n, t); bytes = f ∙ rw (o, g.bytes) (stored-both (drop q s) (frames ms) out (omega arith)) }
+          let same : g ≡ released_of ms = taken-same g (released_of ms) h.answer in
+          let n : g.messages ≡ length ms = ap (λ (x : Released). x.messages) same in
+          let z : g.bytes ≡ length (frames ms) = ap (λ (x : Released). x.bytes) same in
+          let t : length s - q + g.bytes ≡ length (drop q s ++ frames ms) = rw length-append (omega arith) in
+          record { answer = rw (n, t); bytes = f ∙ rw (o, h.bytes) (stored-both (drop q s) (frames ms) out (omega arith)) }
 
 -- and where nothing is held
 module _ (k : ℕ) (s : List ℕ) (p : ℕ) (out : List ℕ) where
-  pub own-none : (n : ℕ) → place_of (place_after k s p) ≡ place.Refused n
-      → Reply.Settled (handed_own k s p (length out)) out (refused n) out
-  own-none n e = refuses (handed_own k s p (length out)) out n (rw (not-reached (place_after k s p) n e))
+  pub own-none : (why : Refusal) → place_after k s p ≡ refused why
+      → Reply.Settled (handed_own k s p (length out)) out (refused why) out
+  own-none why e = refuses (handed_own k s p (length out)) out why (rw e)
 
   module _ (q : ℕ) (e : place_after k s p ≡ taken q) where
     from-there-own : handed_own k s p (length out) ≡ within (length out) (drop q s)

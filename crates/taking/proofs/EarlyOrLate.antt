@@ -10,7 +10,7 @@ use borrow.Author.Tests.{le-leb, lt-leb, leb-true, leb-false}
 use lib.Dec.{leb}
 use lib.ListN.{length, drop, length-append}
 use lib.Seq.{drop-nil}
-use Rattle.wire.specs.Checks.{taken, ◌else◌, checked}
+use Rattle.wire.specs.Checks.{Verdict, taken, ◌else◌, checked, ◌told_by◌}
 use Rattle.wire.specs.declared.refusal.Refusal.TheVariants.{Contradiction}
 use Rattle.wire.proofs.Tests.{by-test}
 use Rattle.blocks.specs.Blocks.{frames}
@@ -112,7 +112,8 @@ reports-early r area room first ms h l =
     )
 
 -- what is passed leaves the lent output and the area, and its answer does not depend on them
-pub leaves : (r : Record) (area : List ℕ) (top : ℕ) (final : Bool) (out : List ℕ) (a : Taken) → a ≡ taken_of (passing r [] top final)
+pub leaves : (r : Record) (area : List ℕ) (top : ℕ) (final : Bool) (out : List ℕ) (a : Verdict Taken)
+    → a ≡ (passing r [] top final told_by taken_of)
     → Answered (passing r area top final) area out a area out
 unfolding passing frames
 leaves r area top final out a e =

@@ -10,12 +10,12 @@ use native.Mathlib.Nat.{add-zero}
 use native.Mathlib.Omega.{arith}
 use lib.Dec.{leb}
 use lib.ListN.{length, drop, length-drop, length-append}
-use Rattle.wire.specs.Checks.{◌at_most◌, ◌else◌, Verdict, refused, taken, checked, ◌into◌}
+use Rattle.wire.specs.Checks.{◌at_most◌, ◌else◌, Verdict, refused, taken, checked, ◌into◌, ◌told_by◌}
 use Rattle.wire.specs.Fields.{Bytes}
 use Rattle.wire.specs.Reply.{within, Settled}
 use Rattle.wire.specs.declared.refusal.Refusal.TheVariants.{Room, Contradiction}
-use Rattle.wire.proofs.Tests.{by-test, impossible}
-use Rattle.wire.proofs.Checks.{into-checked}
+use Rattle.wire.proofs.Tests.{by-test}
+use Rattle.wire.proofs.Checks.{into-checked, not-both, taken-same}
 use Rattle.blocks.specs.Blocks.{frames, whole, cut}
 use Rattle.blocks.proofs.Frames.{frames-append}
 use Rattle.blocks.proofs.Skipping.{skipped, skipped-bytes}
@@ -24,7 +24,6 @@ use Rattle.held.specs.Slots.{slot_of, freed_from}
 use Rattle.held.specs.Hanging.{sound}
 use Rattle.held.specs.Releasing.{run, released}
 use Rattle.held.specs.declared.releasing.Released.{Released}
-use Rattle.held.specs.declared.releasing.Released.TheVariants as gives
 use Rattle.held.proofs.Bitmap.{none-full, freed-none, freed-add}
 use Rattle.held.proofs.Hangs.{in-place-higher}
 use Rattle.held.proofs.Releases.{length-released, released-none, run-within, released-near}
@@ -37,7 +36,6 @@ use Rattle.taking.specs.Taking.{clash, own, told, Taking, reporting, taken_of, A
 use Rattle.taking.specs.Ways.{passing}
 use Rattle.taking.specs.Delivering.{handed_own, Given, handed, Handed}
 use Rattle.taking.specs.declared.Taken.{Taken}
-use Rattle.taking.specs.declared.Taken.TheVariants as takes
 use Rattle.taking.proofs.EarlyOrLate.{among, late, none-held, reports-none, leaves}
 
 -- where room alone decides: 9, or what there is room for
@@ -86,7 +84,8 @@ module _ (r : Record) (area out d : List ℕ) (p first count : ℕ) (f : Fills d
   said = reporting r area (length out) (messages first ms)
 
   -- N is past the messages
-  pub tells-pass : hangs r ≡ true → first + count ≤ r.next.0 → (a : Taken) → a ≡ taken_of (passing r [] (first + count - 1) false)
+  pub tells-pass : hangs r ≡ true → first + count ≤ r.next.0 → (a : Verdict Taken)
+      → a ≡ (passing r [] (first + count - 1) false told_by taken_of)
       → Answered said area out a area out
   tells-pass h past a e =
       let some = f.some in
@@ -95,7 +94,7 @@ module _ (r : Record) (area out d : List ℕ) (p first count : ℕ) (f : Fills d
       (leaves r area (first + count - 1) false out a e)
 
   -- the packet contradicts
-  pub tells-clash : clash r (first + count - 1) false ≡ true → Answered said area out (takes.Refused Contradiction) area out
+  pub tells-clash : clash r (first + count - 1) false ≡ true → Answered said area out (refused Contradiction) area out
   unfolding reporting
   tells-clash c = rw (many, c) (record { answer = refl; bytes = refl; slots = refl })
 
@@ -122,8 +121,7 @@ module _ (r : Record) (area out d : List ℕ) (p first count : ℕ) (f : Fills d
 
   -- the answer to the packet, by how many were released and by the bytes of all
   abbrev pub answer_by : Released → Taken
-  answer_by (gives.Refused n) = takes.Refused n
-  answer_by (gives.Messages k n) = takes.Took n (first + count + k - r.next.0) (reached k)
+  answer_by g = record { bytes = g.bytes; messages = first + count + g.messages - r.next.0; after = reached g.messages }
 
   -- the packet doesn't contradict, and N is among them: only the room is left to ask for
   module _ (a : first ≤ r.next.0) (b : r.next.0 < first + count) (c : clash r (first + count - 1) false ≡ false) where
@@ -145,16 +143,16 @@ module _ (r : Record) (area out d : List ℕ) (p first count : ℕ) (f : Fills d
         (sym (into-checked ((length (frames (others ++ more)) at_most length out else Room) ∷ []) (taken given)
         (λ (g : Given). taken (done g))))
 
-    pub tells : (x : Released) (left : List ℕ) → Handed room out x left → Answered said area out (answer_by x) area left
+    pub tells : (x : Verdict Released) (left : List ℕ) → Handed room out x left → Answered said area out (x told_by answer_by) area left
     tells x left h = rw room-alone (by room (by-room (length (frames (others ++ more)) at_most length out) given) h) where
       all : first + count + length more - r.next.0 ≡ length (others ++ more)
       all = rw (length-append, length-drop, many) (omega arith)
 
       by : (v : Verdict Given) → ByRoom given v → Handed v out x left
-          → Answered (v into λ g. taken (done g)) area out (answer_by x) area left
-      by _ lacks h = record { answer = ap answer_by h.answer; bytes = h.bytes; slots = refl }
+          → Answered (v into λ g. taken (done g)) area out (x told_by answer_by) area left
+      by _ lacks h = record { answer = ap (λ y. y told_by answer_by) h.answer; bytes = h.bytes; slots = refl }
       by _ has h = record {
-        answer = ap answer_by h.answer ∙ rw (all, frames-append others more);
+        answer = ap (λ y. y told_by answer_by) h.answer ∙ rw (all, frames-append others more);
         bytes = rw (frames-append others more) h.bytes;
         slots = refl;
       }
@@ -178,12 +176,11 @@ module _ (r : Record) (area out d : List ℕ) (p first count : ℕ) (f : Fills d
           (λ e. rw (e, append-nil others, add-zero (first + count)) refl)
           (λ e. rw e refl))
 
-      abbrev answer_by_own : Verdict ℕ → Taken
-      answer_by_own (refused n) = takes.Refused n
-      answer_by_own (taken n) = takes.Took n (first + count - r.next.0) past
+      abbrev answer_by_own : ℕ → Taken
+      answer_by_own n = record { bytes = n; messages = first + count - r.next.0; after = past }
 
       pub tells-own : (x : Verdict ℕ) (left : List ℕ) → Settled (within (length out) (frames others)) out x left
-          → Answered said area out (answer_by_own x) area left
+          → Answered said area out (x told_by answer_by_own) area left
       tells-own x left h =
           let enough = length (frames others) at_most length out in
           rw own_alone (by (within (length out) (frames others)) (by-room enough (frames others)) h) where
@@ -191,15 +188,16 @@ module _ (r : Record) (area out d : List ℕ) (p first count : ℕ) (f : Fills d
             all = rw (length-drop, many) (omega arith)
 
             by : (v : Verdict (List ℕ)) → ByRoom (frames others) v → Settled v out x left
-                → Answered (v into λ _. taken (record { delivered = others; after = past; area = area })) area out (answer_by_own x) area
-                left
-            by _ lacks h = record { answer = ap answer_by_own h.answer; bytes = h.bytes; slots = refl }
-            by _ has h = record { answer = ap answer_by_own h.answer ∙ rw all; bytes = h.bytes; slots = refl }
+                → Answered (v into λ _. taken (record { delivered = others; after = past; area = area })) area out
+                (x told_by answer_by_own) area left
+            by _ lacks h = record { answer = ap (λ y. y told_by answer_by_own) h.answer; bytes = h.bytes; slots = refl }
+            by _ has h = record { answer = ap (λ y. y told_by answer_by_own) h.answer ∙ rw all; bytes = h.bytes; slots = refl }
 
   -- how many are released, and where N comes to
-  pub released-few : hangs r ≡ true → first ≤ r.next.0 → r.next.0 < first + count → (k n : ℕ) (left : List ℕ)
-      → Handed room out (gives.Messages k n) left → (k ≤ 31) × (first + count + k ≤ max r.top.0 (first + count - 1) + 1)
-  released-few h a b k n left s =
+  pub released-few : hangs r ≡ true → first ≤ r.next.0 → r.next.0 < first + count → (g : Released) (left : List ℕ)
+      → Handed room out (taken g) left → (g.messages ≤ 31) × (first + count + g.messages ≤ max r.top.0 (first + count - 1) + 1)
+  released-few h a b g left s =
+      let k : ℕ = g.messages in
       let j : ℕ = first + count - r.next.0 in
       let q : r.next.0 + j ≡ first + count = omega arith in
       let top : ℕ = max r.top.0 (first + count - 1) in
@@ -208,6 +206,6 @@ module _ (r : Record) (area out d : List ℕ) (p first count : ℕ) (f : Fills d
       let i = in-place-higher r.held r.next.0 r.top.0 top (omega arith) (hanging r h).placed in
       let near = rw q at (released-near r.held r.next.0 top j i (omega arith)) in
       (rw x (run-within 31 free (first + count)), omega (arith, x, near)) where
-        by : (v : Verdict Given) → ByRoom given v → Handed v out (gives.Messages k n) left → k ≡ length more
-        by _ lacks s = impossible (cc s.answer)
-        by _ has s = cc s.answer
+        by : (v : Verdict Given) → ByRoom given v → Handed v out (taken g) left → g.messages ≡ length more
+        by _ lacks s = not-both (taken g) Room g s.answer refl
+        by _ has s = ap (λ (x : Released). x.messages) (taken-same g _ s.answer)

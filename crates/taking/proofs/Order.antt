@@ -6,6 +6,7 @@ use mathlib.Core.Path.{◌≡◌, refl}
 use mathlib.Core.Bool.{true, false}
 use mathlib.Core.List.{List, [], ◌∷◌}
 use Rattle.wire.specs.Checks.{refused, taken, ◌else◌, checked, in_order}
+use Rattle.wire.specs.declared.refusal.Refusal.{Refusal}
 use Rattle.wire.specs.declared.refusal.Refusal.TheVariants.{Broken}
 use Rattle.wire.proofs.Tests.{by-test}
 use Rattle.held.specs.Hanging.{sound}
@@ -23,10 +24,10 @@ module _ (r : Record) (area d : List ℕ) (room : ℕ) where
   unfolding taking
   broken-area-is-10-first s = by-test (hangs r) (λ h. rw (h, s)) (λ h. rw h)
 
-  pub then-as-it-is-reported : (n : ℕ) → hangs r ≡ true → sound r.held area ≡ true → report_of r.session d ≡ refused n
-      → taking r area d room ≡ refused n
+  pub then-as-it-is-reported : (why : Refusal) → hangs r ≡ true → sound r.held area ≡ true → report_of r.session d ≡ refused why
+      → taking r area d room ≡ refused why
   unfolding taking
-  then-as-it-is-reported n h s e = rw (h, s, e)
+  then-as-it-is-reported why h s e = rw (h, s, e)
 
   pub then-by-these-checks : (report : Report) → report_of r.session d ≡ taken report
       → taking r area d room ≡ checked ((hangs r else Broken) ∷ (sound r.held area else Broken) ∷ report_checks r area room report)

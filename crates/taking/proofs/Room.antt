@@ -58,8 +58,8 @@ own-within most next (end total) w = omega (arith, frames-none)
 
 module _ (d : List ℕ) (b : Bytes d) where
   within-ufo : (p : down.Packet) (report : Report) → down.read d ≡ taken p → of_ufo p ≡ taken report → Within ufo.limit report
-  within-ufo (down.accept session next) report e f = not-both (refused NotForRecord) 16 report refl f
-  within-ufo (down.reject reason) report e f = not-both (refused NotForRecord) 16 report refl f
+  within-ufo (down.accept session next) report e f = not-both (refused NotForRecord) NotForRecord report refl f
+  within-ufo (down.reject reason) report e f = not-both (refused NotForRecord) NotForRecord report refl f
   within-ufo (down.messages first ms) report e f =
       let size = (carries d first ms e).size in
       rw (← taken-same (messages first ms) report f, ← carried d first ms b e, length-drop) (omega arith)

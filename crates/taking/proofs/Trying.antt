@@ -7,6 +7,7 @@ use mathlib.Core.Bool.{true, false}
 use native.Mathlib.Omega.{arith}
 use borrow.Author.Tests.{le-leb}
 use lib.ListN.{length, drop}
+use Rattle.wire.specs.Checks.{Verdict, refused, taken}
 use Rattle.wire.proofs.Tests.{by-test}
 use Rattle.blocks.specs.Blocks.{frames, first, whole, cut, fills, end_at}
 use Rattle.blocks.proofs.Counting.{fills-cut}
@@ -20,7 +21,6 @@ use Rattle.taking.specs.Taking.{clash, told}
 use Rattle.taking.specs.Ways.{TakesMessages}
 use Rattle.record.specs.declared.Record.{Record}
 use Rattle.taking.specs.declared.Taken.{Taken}
-use Rattle.taking.specs.declared.Taken.TheVariants as takes
 use Rattle.taking.proofs.EarlyOrLate.{reports-early}
 use Rattle.wire.specs.declared.refusal.Refusal.TheVariants.{Contradiction}
 
@@ -68,19 +68,20 @@ module _ (r : Record) (area d : List ℕ) (p from count : ℕ) (f : Fills d p fr
   many = counted d p from count f
 
   -- the packet contradicts
-  pub early-clash : clash r (from + count - 1) false ≡ true → TakesMessages r from count area d p [] (takes.Refused Contradiction) area []
+  pub early-clash : clash r (from + count - 1) false ≡ true → TakesMessages r from count area d p [] (refused Contradiction) area []
   early-clash c = rw (reports-early r area 0 from ms h a, many, c) (record { answer = refl; bytes = refl; slots = refl })
 
   -- or its messages are held
   pub early-kept : (held : ℕ) (left : List ℕ) → clash r (from + count - 1) false ≡ false
       → Held (hold_all r.next.0 (record { held = r.held; area = area }) from ms) held left
-      → TakesMessages r from count area d p [] (takes.Took 0 0 (told r r.next.0 held (from + count - 1) false)) left []
+      → TakesMessages r from count area d p []
+      (taken (record { bytes = 0; messages = 0; after = told r r.next.0 held (from + count - 1) false })) left []
   unfolding frames
   early-kept held left c k =
       rw (reports-early r area 0 from ms h a, many, c, k.bitmap, k.bytes) (record { answer = refl; bytes = refl; slots = refl })
 
   -- and the output does not matter
-  pub early-any : (t : Taken) (left out : List ℕ) → TakesMessages r from count area d p [] t left []
+  pub early-any : (t : Verdict Taken) (left out : List ℕ) → TakesMessages r from count area d p [] t left []
       → TakesMessages r from count area d p out t left out
   unfolding frames
   early-any t left out e =

@@ -1,12 +1,11 @@
 -- Delivering: the bytes of a packet's own blocks from N on, and behind them what is released.
 -- Assumes nothing.
 use Rattle.std.specs.Prelude.{ℕ, ◌≡◌, List, ◌++◌, length, drop}
-use Rattle.wire.specs.Checks.{Verdict, refused, taken, ◌into◌}
+use Rattle.wire.specs.Checks.{Verdict, taken, ◌into◌, ◌told_by◌}
 use Rattle.wire.specs.Reply.{Reply, left_of, within}
 use Rattle.blocks.specs.Blocks.{frames, place_after}
 use Rattle.held.specs.Releasing.{releasing}
 use Rattle.held.specs.declared.releasing.Released.{Released}
-use Rattle.held.specs.declared.releasing.Released.TheVariants as gives
 
 -- the bytes of the blocks from p on without the first k, into a room
 abbrev pub handed_own : ℕ → List ℕ → ℕ → ℕ → Reply
@@ -27,11 +26,10 @@ abbrev pub given_bytes : Given → List ℕ
 given_bytes g = g.own ++ frames g.released
 
 -- how many are released, and the bytes of all that is handed over
-abbrev pub handed_of : Verdict Given → Released
-handed_of (refused n) = gives.Refused n
-handed_of (taken g) = gives.Messages (length g.released) (length (given_bytes g))
+abbrev pub handed_of : Given → Released
+handed_of g = record { messages = length g.released; bytes = length (given_bytes g) }
 
 -- the answer r and the bytes left are those of the verdict
-pub record Handed (verdict : Verdict Given) (out : List ℕ) (r : Released) (left : List ℕ) : Type 0 where
-  pub answer : r ≡ handed_of verdict
+pub record Handed (verdict : Verdict Given) (out : List ℕ) (r : Verdict Released) (left : List ℕ) : Type 0 where
+  pub answer : r ≡ verdict told_by handed_of
   pub bytes : left ≡ left_of (verdict into λ g. taken (given_bytes g)) out

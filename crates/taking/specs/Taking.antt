@@ -1,7 +1,7 @@
 -- What the record makes of a report, and of a datagram.
 -- Assumes nothing.
 use Rattle.std.specs.Prelude.{ℕ, ◌+◌, ◌-◌, max, ◌≡◌, List, [], ◌∷◌, ◌++◌, Bool, not, ◌&&◌, ◌||◌, length, drop, if◌then◌else◌}
-use Rattle.wire.specs.Checks.{◌at_most◌, Verdict, refused, taken, Check, ◌else◌, checked, ◌into◌}
+use Rattle.wire.specs.Checks.{◌at_most◌, Verdict, refused, taken, Check, ◌else◌, checked, ◌into◌, ◌told_by◌}
 use Rattle.wire.specs.Reply.{Reply, left_of}
 use Rattle.wire.specs.declared.refusal.Refusal.TheVariants.{Room, Broken, Contradiction}
 use Rattle.blocks.specs.Blocks.{frames}
@@ -13,7 +13,6 @@ use Rattle.record.specs.Record.{hangs}
 use Rattle.reports.specs.Reports.{Report, messages, news, end, top_of, is_end, report_of}
 use Rattle.record.specs.declared.Record.{Record}
 use Rattle.taking.specs.declared.Taken.{Taken}
-use Rattle.taking.specs.declared.Taken.TheVariants as takes
 
 -- the record is ended and the top exceeds T, or the packet is an end whose total is below T
 abbrev pub clash : Record → ℕ → Bool → Bool
@@ -97,9 +96,8 @@ unfoldable pub taking : Record → List ℕ → List ℕ → ℕ → Verdict Tak
 taking r area d room = checked (broken r area) (report_of r.session d into reporting r area room)
 
 -- the answer: how many bytes and messages are delivered, and the record afterwards
-abbrev pub taken_of : Verdict Taking → Taken
-taken_of (refused n) = takes.Refused n
-taken_of (taken t) = takes.Took (length (frames t.delivered)) (length t.delivered) t.after
+abbrev pub taken_of : Taking → Taken
+taken_of t = record { bytes = length (frames t.delivered); messages = length t.delivered; after = t.after }
 
 -- what goes into the lent output: the messages' blocks
 abbrev pub blocks_of : Verdict Taking → Reply
@@ -111,7 +109,7 @@ area_of (refused n) area = area
 area_of (taken t) area = t.area
 
 -- the answer r, the bytes left in the output and the area left are those of the verdict
-pub record Answered (verdict : Verdict Taking) (area out : List ℕ) (r : Taken) (area_left left : List ℕ) : Type 0 where
-  pub answer : r ≡ taken_of verdict
+pub record Answered (verdict : Verdict Taking) (area out : List ℕ) (r : Verdict Taken) (area_left left : List ℕ) : Type 0 where
+  pub answer : r ≡ verdict told_by taken_of
   pub bytes : left ≡ left_of (blocks_of verdict) out
   pub slots : area_left ≡ area_of verdict area

@@ -17,7 +17,7 @@ passing r area top final =
 
 -- the answer r to the count messages from number first on whose blocks stand in the datagram from a place on, and what is left of the area
 -- and of the output
-abbrev pub TakesMessages : Record → (first count : ℕ) (area datagram : List ℕ) (place : ℕ) (out : List ℕ) → Taken
+abbrev pub TakesMessages : Record → (first count : ℕ) (area datagram : List ℕ) (place : ℕ) (out : List ℕ) → Verdict Taken
     → (area_left left : List ℕ)
     → Type 0
 TakesMessages kept first count area datagram place out =

@@ -3,28 +3,27 @@ ghost use Rattle.std.specs.Prelude.{length};
 ghost use Rattle.wire.specs.Reply.{Settled};
 ghost use Rattle.taking.specs.Delivering.{handed_own, handed, Handed};
 
-use blocks::Place;
 use held::releasing::{Released, release};
-use wire::refusal::Refusal;
 use wire::output;
+use wire::refusal::Refusal;
 
 // Where nothing is held.
-pub(crate) fn deliver_own(datagram: &[u8], place: usize, k: u64, out: &mut [u8]) -> Result<usize, Refusal>
+pub(crate) fn deliver_own(
+    datagram: &[u8],
+    place: usize,
+    k: u64,
+    out: &mut [u8],
+) -> Result<usize, Refusal>
     ensures { Settled (handed_own k datagram.now place (length out.old))
         out.old result out.new }
 {
-    let start = blocks::skip(datagram, place, k);
-    match start {
-        Place::Refused(number) => Err(number),
-        Place::At(from) => {
-            let bytes = datagram.len() - from;
-            if out.len() < bytes {
-                return Err(Refusal::Room);
-            }
-            output::copy(out, 0, datagram, from, bytes);
-            Ok(bytes)
-        }
+    let from = blocks::skip(datagram, place, k)?;
+    let bytes = datagram.len() - from;
+    if out.len() < bytes {
+        return Err(Refusal::Room);
     }
+    output::copy(out, 0, datagram, from, bytes);
+    Ok(bytes)
 }
 
 // How many were held and are released, and the bytes of all that is delivered.
@@ -36,26 +35,16 @@ pub(crate) fn deliver(
     number: u64,
     area: &[u8],
     out: &mut [u8],
-) -> Released
+) -> Result<Released, Refusal>
     ensures { Handed (handed k datagram.now place held area.now number (length out.old))
         out.old result out.new }
 {
-    let start = blocks::skip(datagram, place, k);
-    match start {
-        Place::Refused(number) => Released::Refused(number),
-        Place::At(from) => {
-            let own = datagram.len() - from;
-            let given = release(held, number, area, out, own);
-            match given {
-                Released::Refused(number) => Released::Refused(number),
-                Released::Messages { messages, bytes } => {
-                    output::copy(out, 0, datagram, from, own);
-                    Released::Messages {
-                        messages,
-                        bytes: own + bytes,
-                    }
-                }
-            }
-        }
-    }
+    let from = blocks::skip(datagram, place, k)?;
+    let own = datagram.len() - from;
+    let more = release(held, number, area, out, own)?;
+    output::copy(out, 0, datagram, from, own);
+    Ok(Released {
+        messages: more.messages,
+        bytes: own + more.bytes,
+    })
 }

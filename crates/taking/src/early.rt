@@ -7,7 +7,6 @@ ghost use Rattle.taking.specs.Ways.{TakesMessages};
 
 use crate::Taken;
 use crate::tell::{contradicts, tell};
-use blocks::Block;
 use held::holding::hold;
 use record::Record;
 use wire::refusal::Refusal;
@@ -28,24 +27,11 @@ fn hold_each(
 {
     let mut kept = held;
     let mut at = place;
-    let mut number = first;
-    let mut left = count;
-    while 0 < left {
-        match blocks::next(datagram, at) {
-            Block::At {
-                start,
-                length: _,
-                next: past,
-            } => {
-                kept = hold(kept, next, number, &datagram[start..past], area);
-                at = past;
-                number += 1;
-                left -= 1;
-            }
-            Block::Refused(_) => {
-                return kept;
-            }
-        }
+    for k in 0..count {
+        let block = blocks::next(datagram, at).unwrap();
+        let message = &datagram[block.start..block.next];
+        kept = hold(kept, next, first + k as u64, message, area);
+        at = block.next;
     }
     kept
 }
@@ -58,20 +44,19 @@ pub(crate) fn hold_early(
     area: &mut [u8],
     datagram: &[u8],
     place: usize,
-) -> Taken
+) -> Result<Taken, Refusal>
     requires { (hangs kept ≡ true) × Fills datagram.now place first count × (kept.next.0 < first) }
     ensures { TakesMessages kept first count area.old datagram.now place []
         result area.new [] }
 {
-    let next = kept.next;
     let past = first + count as u64;
     if contradicts(kept, past - 1, false) {
-        return Taken::Refused(Refusal::Contradiction);
+        return Err(Refusal::Contradiction);
     }
-    let held = hold_each(kept.held, next.0, first, count, area, datagram, place);
-    Taken::Took {
+    let held = hold_each(kept.held, kept.next.0, first, count, area, datagram, place);
+    Ok(Taken {
         bytes: 0,
         messages: 0,
-        after: tell(kept, next.0, held, past - 1, false),
-    }
+        after: tell(kept, kept.next.0, held, past - 1, false),
+    })
 }

@@ -1,5 +1,5 @@
 -- `hand_over` meets its contract: 12; else what is delivered, its own and the released, has room or not, and the record follows.
-use Prim.Native.Nat.{ℕ, ◌+◌, ◌-◌, ◌^◌, ◌≤◌, ◌<◌, max}
+use Prim.Native.Nat.{◌+◌, ◌-◌, ◌^◌, ◌≤◌, ◌<◌, max}
 use mathlib.Core.Path.{◌≡◌, sym, ◌∙◌}
 use native.Mathlib.Omega.{arith}
 use lib.ListN.{length}
@@ -8,11 +8,13 @@ use Rattle.record.specs.Record.{highest}
 use Rattle.record.specs.declared.Session.{Session}
 use Rattle.record.specs.declared.Session.TheVariants.{Ufo, Memx}
 use Rattle.record.proofs.Hanging.{hanging}
-use Rattle.held.specs.declared.releasing.Released.TheVariants as gives
+use Rattle.held.specs.declared.releasing.Released.{Released}
+use Rattle.wire.specs.Checks.{taken}
+use Rattle.wire.proofs.Checks.{passed-on}
 use Rattle.held.proofs.Hangs.{freed-sound}
 use Rattle.taking.specs.Delivering.{Handed}
 use Rattle.taking.proofs.HandingOver.{hands-others, room, tells-clash, tells, released-few}
-use Rattle.taking.proofs.hand_over.Goals.{After-deliver-given}
+use Rattle.taking.proofs.hand_over.Goals.{After-deliver}
 use Rattle.taking.proofs.hand_over.Goals as goal
 
 -- the highest number of either style, and the one after it, fit
@@ -20,24 +22,23 @@ highest-fits : (s : Session) → highest s < 2 ^ 64 - 1
 highest-fits (Ufo name) = omega arith
 highest-fits (Memx id) = omega arith
 
-given_so : (c : After-deliver-given) → let a = c.args in
+given_so : (c : After-deliver) → let a = c.args in
     Handed (room a.kept a.area.now a.out.now a.datagram.now a.place a.first a.count c.requires.2)
-    a.out.now c.deliver-given.result c.deliver-given.new.out
+    a.out.now c.deliver.result c.deliver.new.out
 given_so c =
     let a = c.args in
     let bytes : Bytes a.datagram.now = λ i. (c.type_inv.datagram i).fits in
     let sound = freed-sound a.kept.held a.area.now (a.first + a.count - a.kept.next.0) a.kept.next.0 c.requires.1 in
     rw (hands-others a.datagram.now bytes a.place a.first a.count c.requires.2 (a.kept.next.0 - a.first) _ a.area.now
     (a.first + a.count) (length a.out.now) (omega arith) sound) at
-    (rw c.free_from-held.ensures at c.deliver-given.ensures)
+    (rw c.free_from-held.ensures at c.deliver.ensures)
 
-reaches : (c : After-deliver-given) (k n : ℕ) → c.deliver-given.result ≡ gives.Messages k n
-    → let a = c.args in
-    (k ≤ 31) × (a.first + a.count + k ≤ max a.kept.top.0 (a.first + a.count - 1) + 1)
-reaches c k n e =
+reaches : (c : After-deliver) (g : Released) → c.deliver.result ≡ taken g → let a = c.args in
+    (g.messages ≤ 31) × (a.first + a.count + g.messages ≤ max a.kept.top.0 (a.first + a.count - 1) + 1)
+reaches c g e =
     let a = c.args in
     released-few a.kept a.area.now a.out.now a.datagram.now a.place a.first a.count c.requires.2 c.requires.0 c.requires.3 c.requires.4
-    k n _ (rw e at (given_so c))
+    g _ (rw e at (given_so c))
 
 pub returns-then-contradicts : goal.returns-then-contradicts
 returns-then-contradicts c =
@@ -47,27 +48,28 @@ returns-then-contradicts c =
 
 pub overflow_add-reached : goal.overflow_add-reached
 overflow_add-reached c =
-    let f = reaches (goal.at.overflow_add-reached c).After-deliver-given _ _ c.in-Messages.is in
+    let f = reaches (goal.at.overflow_add-reached c).After-deliver _ c.in_ok-given.was in
     let t = (hanging c.args.kept c.requires.0).bound in
     let u = highest-fits c.args.kept.session in
     omega (arith, f.1)
 
-pub overflow_cast-messages : goal.overflow_cast-messages
-overflow_cast-messages c =
-    let f = reaches (goal.at.overflow_cast-messages c).After-deliver-given _ _ c.in-Messages.is in
+pub overflow_cast-result : goal.overflow_cast-result
+overflow_cast-result c =
+    let f = reaches (goal.at.overflow_cast-result c).After-deliver _ c.in_ok-given.was in
     omega (arith, f.0, c.requires.3, c.ranges.count.fits)
 
-pub returns-in-Refused : goal.returns-in-Refused
-returns-in-Refused c =
+pub returns-in_err-given : goal.returns-in_err-given
+returns-in_err-given c =
     let a = c.args in
-    tells a.kept a.area.now a.out.now a.datagram.now a.place a.first a.count c.requires.2 c.requires.3 c.requires.4
-    (sym c.contradicts.ensures ∙ c.if-contradicts.false) _ _
-    (rw c.in-Refused.is at (given_so (goal.at.returns-in-Refused c).After-deliver-given))
-
-pub returns-in-Messages : goal.returns-in-Messages
-returns-in-Messages c =
-    let a = c.args in
-    rw (c.tell-after.ensures, c.free_from-free.ensures, c.free_from-held.ensures)
+    rw (passed-on c.from_residual.result c.from_residual.ensures.1)
     (tells a.kept a.area.now a.out.now a.datagram.now a.place a.first a.count c.requires.2 c.requires.3 c.requires.4
     (sym c.contradicts.ensures ∙ c.if-contradicts.false) _ _
-    (rw c.in-Messages.is at (given_so (goal.at.returns-in-Messages c).After-deliver-given)))
+    (rw c.in_err-given.was at (given_so (goal.at.returns-in_err-given c).After-deliver)))
+
+pub returns : goal.returns
+returns c =
+    let a = c.args in
+    rw (c.tell.ensures, c.free_from-free.ensures, c.free_from-held.ensures)
+    (tells a.kept a.area.now a.out.now a.datagram.now a.place a.first a.count c.requires.2 c.requires.3 c.requires.4
+    (sym c.contradicts.ensures ∙ c.if-contradicts.false) _ _
+    (rw c.in_ok-given.was at (given_so (goal.at.returns c).After-deliver)))

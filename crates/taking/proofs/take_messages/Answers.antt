@@ -2,8 +2,8 @@
 use Rattle.taking.proofs.HandingOver.{tells-pass}
 use Rattle.taking.proofs.take_messages.Goals as goal
 
-pub returns-then-first-next : goal.returns-then-first-next
-returns-then-first-next c =
+pub returns-then-first-kept : goal.returns-then-first-kept
+returns-then-first-kept c =
     let a = c.args in
     tells-pass a.kept a.area.now a.out.now a.datagram.now a.place a.first a.count c.requires.2 c.requires.0
-    c.if-next-past.false _ c.pass.ensures
+    c.if-kept-past.false _ c.pass.ensures

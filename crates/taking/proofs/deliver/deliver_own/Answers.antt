@@ -2,40 +2,40 @@
 use mathlib.Core.Path.{◌≡◌, sym, ◌∙◌}
 use native.Mathlib.Omega.{arith}
 use Rattle.wire.specs.Checks.{taken}
+use Rattle.wire.proofs.Checks.{passed-on}
 use Rattle.blocks.specs.Blocks.{place_after}
-use Rattle.blocks.proofs.Skipping.{place_inside, reached}
+use Rattle.blocks.proofs.Skipping.{place_inside}
 use Rattle.taking.proofs.Delivering.{own-none, own_back, own-over}
-use Rattle.taking.proofs.deliver.deliver_own.Goals.{In-At}
+use Rattle.taking.proofs.deliver.deliver_own.Goals.{In_ok-from}
 use Rattle.taking.proofs.deliver.deliver_own.Goals as goal
 
 -- the place that was reached
-stands : (c : In-At) → let a = c.args in
-    place_after a.k a.datagram.now a.place ≡ taken c.in-At.from
-stands c = reached _ _ (sym c.skip-start.ensures ∙ c.in-At.is)
+stands : (c : In_ok-from) → let a = c.args in place_after a.k a.datagram.now a.place ≡ taken c.in_ok-from.from
+stands c = sym c.skip.ensures ∙ c.in_ok-from.was
 
 pub overflow_sub-bytes : goal.overflow_sub-bytes
 overflow_sub-bytes c =
     let a = c.args in
-    let h = place_inside a.k a.datagram.now a.place _ (stands c) in
-    omega arith
+    place_inside a.k a.datagram.now a.place _ (stands (goal.at.overflow_sub-bytes c).In_ok-from)
+
+pub returns-in_err-from : goal.returns-in_err-from
+returns-in_err-from c =
+    let a = c.args in
+    rw (passed-on c.from_residual.result c.from_residual.ensures.1)
+    (own-none a.k a.datagram.now a.place a.out.now _ (sym c.skip.ensures ∙ c.in_err-from.was))
 
 pub returns-then-out-bytes : goal.returns-then-out-bytes
 returns-then-out-bytes c =
     let a = c.args in
-    own_back a.k a.datagram.now a.place a.out.now _ (stands (goal.at.returns-then-out-bytes c).In-At) c.if-out-bytes.true
+    own_back a.k a.datagram.now a.place a.out.now _ (stands (goal.at.returns-then-out-bytes c).In_ok-from) c.if-out-bytes.true
 
 pub copy-requires : goal.copy-requires
 copy-requires c =
     let a = c.args in
-    let h = place_inside a.k a.datagram.now a.place _ (stands (goal.at.copy-requires c).In-At) in
+    let h = place_inside a.k a.datagram.now a.place _ (stands (goal.at.copy-requires c).In_ok-from) in
     omega arith
 
-pub returns-in-Refused : goal.returns-in-Refused
-returns-in-Refused c =
+pub returns : goal.returns
+returns c =
     let a = c.args in
-    own-none a.k a.datagram.now a.place a.out.now _ (sym c.skip-start.ensures ∙ c.in-Refused.is)
-
-pub returns-else-out-bytes : goal.returns-else-out-bytes
-returns-else-out-bytes c =
-    let a = c.args in
-    own-over a.k a.datagram.now a.place a.out.now _ (stands (goal.at.returns-else-out-bytes c).In-At) _ c.if-out-bytes.false c.copy.ensures
+    own-over a.k a.datagram.now a.place a.out.now _ (stands (goal.at.returns c).In_ok-from) _ c.if-out-bytes.false c.copy.ensures

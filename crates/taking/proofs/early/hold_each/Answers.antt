@@ -1,69 +1,72 @@
--- `hold_each` meets its contract: the blocks tried so far, with those that are left, are all the packet's.
-use mathlib.Core.Path.{refl, ap, sym, ◌∙◌}
+-- `hold_each` meets its contract: each turn holds the block that it finds, under its number; those tried so far, with those that are left,
+-- are all the packet's.
+use Prim.Native.Nat.{ℕ, ◌+◌, ◌-◌, ◌<◌}
+use mathlib.Core.Path.{◌≡◌, refl, ap, sym, ◌∙◌}
+use native.Mathlib.Nat.{sub-zero, add-zero}
 use native.Mathlib.Omega.{arith}
 use lib.ListN.{length}
-use Rattle.blocks.proofs.NextBlock.{missed}
+use Rattle.blocks.proofs.NextBlock.{block-fits}
 use Rattle.blocks.proofs.Found.{Found, finds}
 use Rattle.held.specs.Holding.{Holding}
-use Rattle.taking.proofs.Trying.{tried, none_tried, one-long}
-use Rattle.taking.proofs.early.hold_each.Goals.{In-At}
+use Rattle.taking.proofs.Trying.{Tried, tried, none_tried, one-long}
+use Rattle.taking.proofs.early.hold_each.Goals.{After-next, After-unwrap-block}
 use Rattle.taking.proofs.early.hold_each.Goals as goal
 
--- Each turn holds the block that it finds, under its number; those that are left are still to be held. A turn that has found one:
-finds-at : (c : In-At) → Found c.args.datagram.now c.loop-left.at c.in-At.start c.in-At.length c.in-At.past
-finds-at c =
-    finds c.args.datagram.now c.loop-left.at c.in-At.start c.in-At.length c.in-At.past
-    (sym c.next.ensures ∙ c.in-At.is)
+left : (n k : ℕ) → k < n → n - (k + 1) ≡ n - k - 1
+left n k h = omega arith
 
-pub loop-left-init : goal.loop-left-init
-loop-left-init c = (omega arith, omega arith, refl, c.requires.blocks, refl)
-
-pub slice_bounds-hold-count : goal.slice_bounds-hold-count
-slice_bounds-hold-count c = let f = finds-at c in omega arith
-
-pub slice_bounds-hold-start : goal.slice_bounds-hold-start
-slice_bounds-hold-start c = let f = finds-at c in omega arith
-
-pub slice_bounds-hold-end : goal.slice_bounds-hold-end
-slice_bounds-hold-end c = let f = finds-at c in omega arith
-
-pub overflow_add-number : goal.overflow_add-number
-overflow_add-number c =
-    omega (arith, c.loop-left.invariant.0, c.loop-left.invariant.1, c.loop-left-test.true, c.requires.bound)
-
-pub loop-left-preserved : goal.loop-left-preserved
-loop-left-preserved c =
+-- in a turn there is one to try,
+tries : (c : After-next) → let a = c.args in let l = c.loop-k in
+    Tried a.datagram.now a.next (record { held = l.kept; area = l.area }) (a.first + l.k) l.at (a.count - l.k)
+tries c =
     let a = c.args in
-    let h : Holding = record { held = c.loop-left.kept; area = c.loop-left.area } in
-    let d = a.datagram.now in
-    let f = finds-at (goal.at.loop-left-preserved c).In-At in
-    let u = tried d a.next h c.loop-left.number c.loop-left.at c.loop-left.left c.loop-left-test.true c.loop-left.invariant.3 in (
-      omega (arith, c.loop-left.invariant.0),
-      omega (arith, c.loop-left.invariant.0, c.loop-left.invariant.1, c.loop-left-test.true),
-      ap length c.hold-kept.ensures.bytes ∙ one-long a.next h c.loop-left.number _ ∙ c.loop-left.invariant.2,
-      rw f.ends u.others,
-      c.loop-left.invariant.4 ∙ u.goes_on ∙ rw (c.hold-kept.ensures.bitmap, c.hold-kept.ensures.bytes, f.same, f.ends),
+    let l = c.loop-k in
+    let some = c.loop-k-test.true in
+    tried a.datagram.now a.next (record { held = l.kept; area = l.area }) (a.first + l.k) l.at (a.count - l.k) (omega arith) l.invariant.2
+
+-- and it was found
+found : (c : After-unwrap-block) → Found c.args.datagram.now c.loop-k.at c.unwrap-block.result
+found c = finds _ _ _ (sym c.next.ensures ∙ c.unwrap-block.ensures)
+
+pub loop-k-init : goal.loop-k-init
+loop-k-init c =
+    let a = c.args in
+    (omega arith, refl, rw (sub-zero a.count) c.requires.blocks, rw (sub-zero a.count, add-zero a.first))
+
+pub unwrap-block-requires : goal.unwrap-block-requires
+unwrap-block-requires c =
+    let u = tries c in
+    rw (c.next.ensures, block-fits c.args.datagram.now c.loop-k.at _ _ refl refl u.inside)
+
+pub slice_bounds-message-count : goal.slice_bounds-message-count
+slice_bounds-message-count c = let f = found (goal.at.slice_bounds-message-count c).After-unwrap-block in omega arith
+
+pub slice_bounds-message-start : goal.slice_bounds-message-start
+slice_bounds-message-start c = let f = found (goal.at.slice_bounds-message-start c).After-unwrap-block in omega arith
+
+pub slice_bounds-message-end : goal.slice_bounds-message-end
+slice_bounds-message-end c = let f = found (goal.at.slice_bounds-message-end c).After-unwrap-block in omega arith
+
+pub loop-k-preserved : goal.loop-k-preserved
+loop-k-preserved c =
+    let a = c.args in
+    let l = c.loop-k in
+    let at = goal.at.loop-k-preserved c in
+    let h : Holding = record { held = l.kept; area = l.area } in
+    let f = found at.After-unwrap-block in
+    let u = tries at.After-next in
+    let next : a.first + (l.k + 1) ≡ a.first + l.k + 1 = omega arith in (
+      omega arith,
+      ap length c.hold-kept.ensures.bytes ∙ one-long a.next h (a.first + l.k) _ ∙ l.invariant.1,
+      rw (f.ends, left a.count l.k c.loop-k-test.true) u.others,
+      l.invariant.3 ∙ u.goes_on
+          ∙ rw (c.hold-kept.ensures.bitmap, c.hold-kept.ensures.bytes, f.same, f.ends, next, left a.count l.k c.loop-k-test.true),
     )
-
-pub shape_of-area-in-Refused : goal.shape_of-area-in-Refused
-shape_of-area-in-Refused c = c.loop-left.invariant.2
-
-pub returns-in-Refused : goal.returns-in-Refused
-returns-in-Refused c =
-    let a = c.args in
-    let m = missed a.datagram.now c.loop-left.at _ (sym c.next.ensures ∙ c.in-Refused.is) in
-    let h : Holding = record { held = c.loop-left.kept; area = c.loop-left.area } in
-    let u = tried a.datagram.now a.next h c.loop-left.number c.loop-left.at c.loop-left.left c.loop-left-test.true c.loop-left.invariant.3
-    in
-    absurd (omega (arith, m.1, u.inside))
-
-pub shape_of-area : goal.shape_of-area
-shape_of-area c = c.loop-left.invariant.2
 
 pub returns : goal.returns
 returns c =
     let a = c.args in
-    let h : Holding = record { held = c.loop-left.kept; area = c.loop-left.area } in
-    rw (c.loop-left.invariant.4 ∙ none_tried a.datagram.now a.next h c.loop-left.number c.loop-left.at c.loop-left.left
-    c.loop-left-test.false c.loop-left.invariant.3)
+    let l = c.loop-k in
+    let h : Holding = record { held = l.kept; area = l.area } in
+    rw (l.invariant.3 ∙ none_tried a.datagram.now a.next h (a.first + l.k) l.at (a.count - l.k) (omega arith) l.invariant.2)
     (record { bitmap = refl; bytes = refl })

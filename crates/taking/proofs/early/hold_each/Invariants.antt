@@ -7,12 +7,8 @@ use Rattle.held.specs.Holding.{hold_all}
 use Rattle.reports.specs.Reports.{blocks_from}
 use Rattle.taking.proofs.early.hold_each.Given as goal
 
-abbrev pub invariant-loop-left : goal.invariant-loop-left
-invariant-loop-left l =
-    (l.left ≤ l.count) × (l.number ≡ l.first + (l.count - l.left)) × (length l.area ≡ length l.initial.area) ×
-    (fills l.datagram l.at l.left ≡ true)
+abbrev pub invariant-loop-k : goal.invariant-loop-k
+invariant-loop-k l =
+    (l.k ≤ l.count) × (length l.area ≡ length l.initial.area) × (fills l.datagram l.at (l.count - l.k) ≡ true)
     × (hold_all l.next (record { held = l.held; area = l.initial.area }) l.first (blocks_from l.datagram l.place l.count)
-    ≡ hold_all l.next (record { held = l.kept; area = l.area }) l.number (blocks_from l.datagram l.at l.left))
-
-abbrev pub decreases-loop-left : goal.decreases-loop-left
-decreases-loop-left l = l.left
+    ≡ hold_all l.next (record { held = l.kept; area = l.area }) (l.first + l.k) (blocks_from l.datagram l.at (l.count - l.k)))
