@@ -6,7 +6,7 @@ use mathlib.Core.Path.{◌≡◌, refl, sym, ◌∙◌}
 use mathlib.Core.Bool.{true}
 use mathlib.Core.List.{List, [], ◌++◌}
 use lib.ListN.{length, drop}
-use Rattle.wire.specs.Checks.{taken}
+use Rattle.wire.specs.Checks.{Verdict, taken}
 use Rattle.soup_pieces.specs.Machine.{packet, refusal, yielded, fates, fed, First, used_up, given, first}
 use Rattle.soup_pieces.specs.Calling.{Lent, machine_in, Permitted, Seen, Calls, Underway, Feeds, joined}
 use Rattle.soup_pieces.specs.Calling as room
@@ -130,7 +130,7 @@ flat_lent l = record { pieces = flat_pieces l.pieces; buffer = l.buffer }
 -- by an entry that allows whatever the contract permits
 module _ (entry : FlatEntry) (offers : (l : FlatLent) (piece : List ℕ) (place : ℕ) (r : FlatPiece) (left : List ℕ)
     → FlatPermitted l piece place r left → entry l piece place r left) where
-  offered : (l : Lent) (piece : List ℕ) (place : ℕ) (t : Taken) (left : List ℕ)
+  offered : (l : Lent) (piece : List ℕ) (place : ℕ) (t : Verdict Taken) (left : List ℕ)
       → Permitted l piece place t left
       → entry (flat_lent l) piece place (flat_of (flat_pieces l.pieces) piece left t) left
   offered l piece place t left a =
@@ -140,14 +140,14 @@ module _ (entry : FlatEntry) (offers : (l : FlatLent) (piece : List ℕ) (place 
       → Calls Permitted piece l place got end
       → FlatCalls entry piece (flat_lent l) place (flat_all got) (flat_lent end)
   calls-flat piece l place got end (room.uses_up _ _ kept left a) =
-      uses_up (flat_lent l) place _ left (offered l piece place (takes.UsedUp kept) left a) refl refl
+      uses_up (flat_lent l) place _ left (offered l piece place (taken (takes.UsedUp kept)) left a) refl refl
   calls-flat piece l place got end (room.hands _ _ says number bytes next kept left more _ a cs) =
       let on = calls-flat piece (record { pieces = kept; buffer = left }) next more end cs in
-      let answer = offered l piece place (takes.Packet says number bytes next kept) left a in
+      let answer = offered l piece place (taken (takes.Packet says number bytes next kept)) left a in
       hands (flat_lent l) place _ left (flat_all more) (flat_lent end) answer refl refl on
   calls-flat piece l place got end (room.refuses _ _ why bytes next kept left more _ a cs) =
       let on = calls-flat piece (record { pieces = kept; buffer = left }) next more end cs in
-      let answer = offered l piece place (takes.Unfit why bytes next kept) left a in
+      let answer = offered l piece place (taken (takes.Unfit why bytes next kept)) left a in
       refuses (flat_lent l) place _ left (flat_all more) (flat_lent end) answer refl refl on
 
   feeds-flat : (l : Lent) (pieces : List (List ℕ)) (got : List Seen) (end : Lent) → Feeds Permitted l pieces got end

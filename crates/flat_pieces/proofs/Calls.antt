@@ -1,16 +1,20 @@
 -- Each call of a program in C that is not refused is a call of the room.
 -- Assumes nothing.
-use Prim.Native.Nat.{ℕ, suc, ◌<◌}
+use Prim.Native.Nat.{ℕ, suc}
 use mathlib.Core.Path.{◌≡◌, refl, sym, ap, ◌∙◌}
 use mathlib.Core.List.{List, [], ◌∷◌, ◌++◌}
 use mathlib.Core.Bool.{true, false}
 use native.Mathlib.Omega.{arith}
-use lib.ListN.{length, take, drop}
-use Rattle.wire.specs.Checks.{◌at_most◌, Verdict, taken}
-use Rattle.wire.proofs.Tests.{by-test, impossible}
-use Rattle.soup_pieces.specs.Machine.{Yield, packet, refusal, First, used_up, given, first}
-use Rattle.soup_pieces.specs.Eating.{ready, eating, returned}
-use Rattle.soup_pieces.specs.Calling.{Lent, machine_in, Permitted, Seen, seen, Calls, Underway}
+use lib.ListN.{take}
+use Rattle.wire.specs.Checks.{Verdict, refused, taken, ◌told_by◌}
+use Rattle.wire.specs.Refusals.{number_of}
+use Rattle.wire.specs.declared.refusal.Refusal.{Refusal}
+use Rattle.wire.proofs.Numbered.{has-number}
+use borrow.Author.Tests.{eqb-false}
+use Rattle.wire.proofs.Tests.{by-test}
+use Rattle.soup_pieces.specs.Machine.{Yield, packet, refusal, First}
+use Rattle.soup_pieces.specs.Eating.{eating, returned}
+use Rattle.soup_pieces.specs.Calling.{number_in, Permitted, Seen, seen, Calls, Underway}
 use Rattle.soup_pieces.specs.Calling as room
 use Rattle.soup_pieces.specs.declared.Taken.{Taken}
 use Rattle.soup_pieces.specs.declared.Taken.TheVariants as takes
@@ -24,7 +28,7 @@ use Rattle.flat_pieces.proofs.FlatAndBack.{pieces-again}
 
 -- an answer that is not refused is the room's, laid flat
 pub record RoomsAnswer (l : FlatLent) (piece : List ℕ) (place : ℕ) (r : FlatPiece) (left : List ℕ) : Type 0 where
-  pub answer : Taken
+  pub answer : Verdict Taken
   pub permitted : Permitted (lent_of l) piece place answer left
   pub flat : r ≡ flat_of l.pieces piece left answer
 
@@ -37,7 +41,7 @@ rooms-answer l piece place r left a e = by-test (is_flag l.pieces.dropping) know
       let v : Verdict First = eating (pieces_of l.pieces) l.buffer piece place in
       let b : FlatAnswered v l.pieces l.buffer piece r left = rw f at a in
       record {
-        answer = returned piece v;
+        answer = v told_by returned piece;
         permitted = record { answer = refl; bytes = b.bytes };
         flat = b.answer ∙ sym (rw b.bytes (same-flat l.pieces l.buffer piece v));
       }
@@ -45,30 +49,13 @@ rooms-answer l piece place r left a e = by-test (is_flag l.pieces.dropping) know
   unknown : is_flag l.pieces.dropping ≡ false → RoomsAnswer l piece place r left
   unknown f = let ten : r.refusal ≡ 10 = ap (λ (x : FlatPiece). x.refusal) (rw f at a).answer in absurd (omega arith)
 
--- no call is refused under the number 0
-never-nought : {C : Type 0} (l : Lent) (piece : List ℕ) (place : ℕ) (left : List ℕ) → Permitted l piece place (takes.Refused 0) left → C
-unfolding eating
-never-nought {C} l piece place left a =
-    by-test (ready l.pieces l.buffer)
-    (λ h. by-test (place at_most length piece)
-    (λ p. not_taken (first (machine_in l) (drop place piece)) (rw (h, p) at a.answer))
-    (λ p. other 4 (rw (h, p) at a.answer) (omega arith)))
-    (λ h. other 10 (rw h at a.answer) (omega arith)) where
-      not_taken : (f : First) → takes.Refused 0 ≡ returned piece (taken f) → C
-      not_taken (used_up s) e = impossible cc
-      not_taken (given (packet d p number) s rest) e = impossible cc
-      not_taken (given (refusal d why) s rest) e = impossible cc
-
-      other : (n : ℕ) → takes.Refused 0 ≡ takes.Refused n → 0 < n → C
-      other n e m = let z : 0 ≡ n = cc in absurd (omega arith)
-
 -- ---- the calls for a piece
 
 -- what a caller of the room is handed, laid flat
 abbrev pub flat_all : List Seen → List FlatSeen
 flat_all [] = []
 flat_all (room.a_packet d says number ∷ ss) = a_packet d (soup_read d).packet number ∷ flat_all ss
-flat_all (room.a_refusal d why ∷ ss) = a_refusal d why ∷ flat_all ss
+flat_all (room.a_refusal d why ∷ ss) = a_refusal d (number_of why) ∷ flat_all ss
 
 pub flat_append : (a b : List Seen) → flat_all (a ++ b) ≡ flat_all a ++ flat_all b
 flat_append [] b = refl
@@ -89,58 +76,62 @@ pub record Through (piece : List ℕ) (l : FlatLent) (place : ℕ) (saw : List F
   pub calls : Calls Permitted piece (lent_of l) place got (lent_of end)
   pub same : saw ≡ flat_all got
 
+-- no refusal has the number 0
+never-nought : {C : Type 0} (why : Refusal) → number_of why ≡ 0 → C
+never-nought why z = absurd (eqb-false (number_of why) 0 (has-number why) z)
+
 apart : {C : Type 0} (m n : ℕ) → m ≡ n → (m ≡ n → ⊥) → C
 apart m n e f = absurd (f e)
 
 module _ (piece : List ℕ) (l : FlatLent) (place : ℕ) (r : FlatPiece) (left : List ℕ) where
-  abbrev pub Flat : Taken → Type 0
+  abbrev pub Flat : Verdict Taken → Type 0
   Flat t = r ≡ flat_of l.pieces piece left t
 
-  abbrev pub Room : Taken → Type 0
+  abbrev pub Room : Verdict Taken → Type 0
   Room t = Permitted (lent_of l) piece place t left
 
-  pub ends : r.refusal ≡ 0 → r.what ≡ 0 → (t : Taken) → Flat t → Room t → Through piece l place [] (then r left)
-  ends e w (takes.Refused n) f a = let z : n ≡ 0 = rw f at e in never-nought (lent_of l) piece place left (rw z at a)
-  ends e w (takes.UsedUp after) f a = record {
+  pub ends : r.refusal ≡ 0 → r.what ≡ 0 → (t : Verdict Taken) → Flat t → Room t → Through piece l place [] (then r left)
+  ends e w (refused why) f a = never-nought why (rw f at e)
+  ends e w (taken (takes.UsedUp after)) f a = record {
     got = [];
     calls = rw (f, pieces-again after) (room.uses_up (lent_of l) place after left a);
     same = refl;
   }
-  ends e w (takes.Packet says number bytes next after) f a = apart 1 0 (rw f at w) (λ z. omega arith)
-  ends e w (takes.Unfit why bytes next after) f a = apart 2 0 (rw f at w) (λ z. omega arith)
+  ends e w (taken (takes.Packet says number bytes next after)) f a = apart 1 0 (rw f at w) (λ z. omega arith)
+  ends e w (taken (takes.Unfit why bytes next after)) f a = apart 2 0 (rw f at w) (λ z. omega arith)
 
   -- a call that was not refused and has not used the piece up
   pub goes_on : r.refusal ≡ 0 → (r.what ≡ 0 → ⊥) → (calls : ℕ) (last : FlatLent) (at : ℕ)
-      → Underway Permitted piece (lent_of (then r left)) r.place calls (lent_of last) at → (t : Taken) → Flat t → Room t
+      → Underway Permitted piece (lent_of (then r left)) r.place calls (lent_of last) at → (t : Verdict Taken) → Flat t → Room t
       → Underway Permitted piece (lent_of l) place (suc calls) (lent_of last) at
-  goes_on e w calls last at on (takes.Refused n) f a = let z : n ≡ 0 = rw f at e in never-nought (lent_of l) piece place left (rw z at a)
-  goes_on e w calls last at on (takes.UsedUp after) f a = absurd (w (rw f))
-  goes_on e w calls last at on (takes.Packet says number bytes next after) f a =
+  goes_on e w calls last at on (refused why) f a = never-nought why (rw f at e)
+  goes_on e w calls last at on (taken (takes.UsedUp after)) f a = absurd (w (rw f))
+  goes_on e w calls last at on (taken (takes.Packet says number bytes next after)) f a =
       room.handing (lent_of l) place says number bytes next after left calls (lent_of last) at a (rw (f, pieces-again after) at on)
-  goes_on e w calls last at on (takes.Unfit why bytes next after) f a =
+  goes_on e w calls last at on (taken (takes.Unfit why bytes next after)) f a =
       room.refusing (lent_of l) place why bytes next after left calls (lent_of last) at a (rw (f, pieces-again after) at on)
 
   module _ (more : List FlatSeen) (end : FlatLent) (on : Through piece (then r left) r.place more end) where
-    pub hands_out : r.what ≡ 1 → (t : Taken) → Flat t → Room t
+    pub hands_out : r.what ≡ 1 → (t : Verdict Taken) → Flat t → Room t
         → Through piece l place (a_packet (take r.bytes left) r.packet r.number ∷ more) end
-    hands_out w (takes.Refused n) f a = apart 0 1 (rw f at w) (λ z. omega arith)
-    hands_out w (takes.UsedUp after) f a = apart 0 1 (rw f at w) (λ z. omega arith)
-    hands_out w (takes.Packet says number bytes next after) f a =
+    hands_out w (refused why) f a = apart 0 1 (rw f at w) (λ z. omega arith)
+    hands_out w (taken (takes.UsedUp after)) f a = apart 0 1 (rw f at w) (λ z. omega arith)
+    hands_out w (taken (takes.Packet says number bytes next after)) f a =
         let c : Calls Permitted piece (record { pieces = after; buffer = left }) next on.got (lent_of end) =
         rw (f, pieces-again after) at on.calls in
         record {
-          got = room.a_packet (take bytes left) says number.0 ∷ on.got;
+          got = room.a_packet (take bytes left) says (number_in number) ∷ on.got;
           calls = room.hands (lent_of l) place says number bytes next after left on.got (lent_of end) a c;
           same = rw (f, on.same);
         }
-    hands_out w (takes.Unfit why bytes next after) f a = apart 2 1 (rw f at w) (λ z. omega arith)
+    hands_out w (taken (takes.Unfit why bytes next after)) f a = apart 2 1 (rw f at w) (λ z. omega arith)
 
-    pub hands-back : r.what ≡ 2 → (t : Taken) → Flat t → Room t
+    pub hands-back : r.what ≡ 2 → (t : Verdict Taken) → Flat t → Room t
         → Through piece l place (a_refusal (take r.bytes left) r.why ∷ more) end
-    hands-back w (takes.Refused n) f a = apart 0 2 (rw f at w) (λ z. omega arith)
-    hands-back w (takes.UsedUp after) f a = apart 0 2 (rw f at w) (λ z. omega arith)
-    hands-back w (takes.Packet says number bytes next after) f a = apart 1 2 (rw f at w) (λ z. omega arith)
-    hands-back w (takes.Unfit why bytes next after) f a =
+    hands-back w (refused why) f a = apart 0 2 (rw f at w) (λ z. omega arith)
+    hands-back w (taken (takes.UsedUp after)) f a = apart 0 2 (rw f at w) (λ z. omega arith)
+    hands-back w (taken (takes.Packet says number bytes next after)) f a = apart 1 2 (rw f at w) (λ z. omega arith)
+    hands-back w (taken (takes.Unfit why bytes next after)) f a =
         let c : Calls Permitted piece (record { pieces = after; buffer = left }) next on.got (lent_of end) =
         rw (f, pieces-again after) at on.calls in
         record {

@@ -1,18 +1,19 @@
 -- The texts of a packet that the reader takes stand in it as they are.
 -- Assumes nothing.
 use Prim.Native.Nat.{ℕ, ◌≤◌}
-use mathlib.Core.Path.{◌≡◌, refl, sym, ◌∙◌}
+use mathlib.Core.Path.{◌≡◌, sym, ◌∙◌}
 use mathlib.Core.List.{List}
 use native.Mathlib.Omega.{arith}
 use lib.ListN.{length, get_or, take, drop}
-use Rattle.wire.specs.Checks.{Verdict, refused, taken}
+use Rattle.wire.specs.Checks.{taken, ◌told_by◌}
+use Rattle.wire.proofs.Checks.{told}
 use Rattle.wire.specs.Fields.{Bytes}
 use Rattle.names.specs.Names.{name_bytes, user_bytes}
 use Rattle.soup.specs.Packet.{Packet, debug, accept, reject, sequenced, server_heartbeat, end_of_session, login, unsequenced}
 use Rattle.soup.specs.Packet.{client_heartbeat}
 use Rattle.soup.specs.Packet.{logout, write, Fit}
 use Rattle.soup.specs.Read.{read}
-use Rattle.soup.specs.Reading.{packet_of, reading_of}
+use Rattle.soup.specs.Reading.{packet_of}
 use Rattle.soup.specs.declared.reading.Reading.{Reading}
 use Rattle.soup.specs.declared.reading.Reading.TheVariants as says
 use Rattle.soup.proofs.Fields.{accept-read, login-read}
@@ -22,7 +23,6 @@ use Rattle.flat_packet.proofs.Round.{padded-right-text, padded-left-text, same_n
 
 -- where they stand, in a packet that is long enough
 abbrev pub Stand : List ℕ → Reading → Type 0
-Stand d (says.Refused n) = Unit
 Stand d (says.Debug start size) = Unit
 Stand d (says.Accept session number) = (32 ≤ length d) × (name_bytes session ≡ take 10 (drop 1 d))
 Stand d (says.Reject reason) = Unit
@@ -61,8 +61,8 @@ module _ (d : List ℕ) where
   stand client_heartbeat f e k = tt
   stand logout f e k = tt
 
-  pub texts : (said x : Reading) → said ≡ reading_of (read d) → Bytes d → said ≡ x → Stand d x
-  texts said x e b k = rw (← k, e) (by (read d) refl) where
-    by : (v : Verdict Packet) → read d ≡ v → Stand d (reading_of v)
-    by (refused n) q = tt
-    by (taken p) q = let r = read-is-written d p b q in stand p r.0 q (rw r.1 (sym (same-type d)))
+  pub texts : (said x : Reading) → read d told_by packet_of ≡ taken said → Bytes d → said ≡ x → Stand d x
+  texts said x e b k =
+      let t = told (read d) packet_of said e in
+      let r = read-is-written d t.by b t.was in
+      rw (← k, ← t.gave) (stand t.by r.0 t.was (rw r.1 (sym (same-type d))))

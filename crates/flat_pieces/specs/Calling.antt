@@ -1,6 +1,7 @@
 -- What a program in C is handed that feeds one piece after another and calls until each is used up, whatever the entry's contract allows.
 -- Assumes nothing.
 use Rattle.std.specs.Prelude.{ℕ, suc, ◌≡◌, List, [], ◌∷◌, ◌++◌, take}
+use Rattle.wire.specs.Refusals.{number_of}
 use Rattle.soup_pieces.specs.Machine.{Yield, packet, refusal}
 use Rattle.soup_pieces.specs.Calling.{Lent}
 use Rattle.flat_packet.specs.declared.Packet.{Packet}
@@ -34,7 +35,7 @@ pub data FlatSeen : Type 0 where
 abbrev pub flat_seen : List Yield → List FlatSeen
 flat_seen [] = []
 flat_seen (packet d p number ∷ hs) = a_packet d (soup_read d).packet number ∷ flat_seen hs
-flat_seen (refusal d why ∷ hs) = a_refusal d why ∷ flat_seen hs
+flat_seen (refusal d why ∷ hs) = a_refusal d (number_of why) ∷ flat_seen hs
 
 -- what is lent to the next call
 abbrev pub then : FlatPiece → (left : List ℕ) → FlatLent

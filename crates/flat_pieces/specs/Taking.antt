@@ -3,6 +3,7 @@
 use Rattle.std.specs.Prelude.{ℕ, ◌-◌, ◌≡◌, List, [], ◌∷◌, length}
 use Rattle.wire.specs.Checks.{Verdict, refused, taken, ◌else◌, checked, ◌into◌}
 use Rattle.wire.specs.Reply.{left_of}
+use Rattle.wire.specs.Refusals.{number_of}
 use Rattle.wire.specs.declared.refusal.Refusal.TheVariants.{Broken}
 use Rattle.soup_pieces.specs.Machine.{Machine, packet, refusal, First, used_up, given}
 use Rattle.soup_pieces.specs.Eating.{pieces_of as handed_back, eating, at_start}
@@ -32,8 +33,8 @@ take_verdict lent buffer piece place = checked ((is_flag lent.dropping else Brok
 -- where the call is refused, the pieces that were lent; the place is where the bytes that are left begin; a packet's fields are those that
 -- the reader gives
 abbrev pub flat_taken : FlatPieces → (piece : List ℕ) → Verdict First → FlatPiece
-flat_taken lent piece (refused n) =
-    record { refusal = n; place = 0; what = 0; why = 0; number = 0; bytes = 0; packet = nothing; pieces = lent }
+flat_taken lent piece (refused why) =
+    record { refusal = number_of why; place = 0; what = 0; why = 0; number = 0; bytes = 0; packet = nothing; pieces = lent }
 flat_taken lent piece (taken (used_up s)) =
     record { refusal = 0; place = length piece; what = 0; why = 0; number = 0; bytes = 0; packet = nothing; pieces = flat_machine s }
 flat_taken lent piece (taken (given (packet d p number) s left)) =
@@ -52,7 +53,7 @@ flat_taken lent piece (taken (given (refusal d why) s left)) =
       refusal = 0;
       place = length piece - length left;
       what = 2;
-      why = why;
+      why = number_of why;
       number = 0;
       bytes = length d;
       packet = nothing;

@@ -3,8 +3,10 @@
 
 ghost use Rattle.std.specs.Prelude.{◌≡◌, ◌+◌, ◌≤◌, length, take, drop};
 ghost use Rattle.soup.specs.Read.{read};
-ghost use Rattle.soup.specs.Reading.{reading_of};
+ghost use Rattle.wire.specs.Checks.{taken, ◌told_by◌};
+ghost use Rattle.soup.specs.Reading.{packet_of};
 ghost use Rattle.soup_pieces.specs.Eating.{Returned};
+ghost use Rattle.soup_pieces.specs.Calling.{number_in};
 ghost use Rattle.flat_packet.specs.Packets.{nothing};
 ghost use Rattle.flat_soup.specs.Reading.{soup_read};
 ghost use Rattle.flat_pieces.specs.Taking.{pieces_of, flat_pieces, take_verdict, FlatAnswered};
@@ -15,8 +17,8 @@ use flat_packet::{Packet, Read};
 use soup::reading::Reading;
 use soup_pieces::{Pieces, Taken};
 use wire::kinds::Sequence;
-use wire::refusal::Refusal;
 use wire::output;
+use wire::refusal::Refusal;
 
 // What is handed from call to call, with the buffer.
 #[repr(C)]
@@ -66,8 +68,6 @@ fn flat_pieces(after: Pieces) -> FlatPieces
 fn none_ended(given: FlatPieces) -> FlatPiece
     ensures { result ≡ none_ended given }
 {
-    let none = flat_packet::no_packet(0);
-    let packet = none.packet;
     FlatPiece {
         refusal: 0,
         place: 0,
@@ -75,7 +75,7 @@ fn none_ended(given: FlatPieces) -> FlatPiece
         why: 0,
         number: 0,
         bytes: 0,
-        packet,
+        packet: flat_packet::nothing(),
         pieces: given,
     }
 }
@@ -94,37 +94,24 @@ fn up_to(flat: FlatPiece, place: usize, what: u8, bytes: usize, after: Pieces) -
 }
 
 // The texts are copied as they stand: taken apart into the reader's packed names and put together again they would cost every answer.
-fn six(s: &[u8], at: usize) -> [u8; 6]
-    requires { at + 6 ≤ length s.now }
-    ensures { result ≡ take 6 (drop at s.now) }
+fn text<const N: usize>(s: &[u8], at: usize) -> [u8; N]
+    requires { at + N ≤ length s.now }
+    ensures { result ≡ take N (drop at s.now) }
 {
-    let mut text = [0; 6];
-    output::copy(&mut text, 0, s, at, 6);
-    text
-}
-
-fn ten(s: &[u8], at: usize) -> [u8; 10]
-    requires { at + 10 ≤ length s.now }
-    ensures { result ≡ take 10 (drop at s.now) }
-{
-    let mut text = [0; 10];
-    output::copy(&mut text, 0, s, at, 10);
+    let mut text = [0; N];
+    output::copy(&mut text, 0, s, at, N);
     text
 }
 
 // What `hp_soup_read` would say of the bytes, by what the reader has found. The reader's own flat function is not called: with a second
 // caller the compiler would no longer lay it into `hp_soup_read`, and that would take half as long again.
 fn told(said: Reading, bytes: &[u8]) -> Read
-    requires { said ≡ reading_of (read bytes.now) }
+    requires { read bytes.now told_by packet_of ≡ taken said }
     ensures { result ≡ soup_read bytes.now }
 {
-    if bytes.len() == 0 {
-        return flat_packet::no_packet(Refusal::Empty);
-    }
     let kind = bytes[0];
     match said {
-        Reading::Refused(number) => flat_packet::no_packet(number),
-        Reading::Accept { session: _, number } => flat_packet::named(ten(bytes, 1), number.0),
+        Reading::Accept { session: _, number } => flat_packet::named(text(bytes, 1), number.0),
         Reading::Reject { reason } => flat_packet::rejected(reason),
         Reading::Login {
             user: _,
@@ -132,25 +119,31 @@ fn told(said: Reading, bytes: &[u8]) -> Read
             session: _,
             number,
         } => {
-            let user = six(bytes, 1);
-            flat_packet::logged_in(user, ten(bytes, 7), ten(bytes, 17), number.0, 0)
+            let user = text(bytes, 1);
+            flat_packet::logged_in(user, text(bytes, 7), text(bytes, 17), number.0, 0)
         }
-        Reading::Debug { start, length } => {
-            flat_packet::payload(kind, start as u64, length as u64, 0)
-        }
-        Reading::Sequenced { start, length } => {
-            flat_packet::payload(kind, start as u64, length as u64, 0)
-        }
-        Reading::Unsequenced { start, length } => {
+        Reading::Debug { start, length }
+        | Reading::Sequenced { start, length }
+        | Reading::Unsequenced { start, length } => {
             flat_packet::payload(kind, start as u64, length as u64, 0)
         }
         _ => flat_packet::bare(kind, 0),
     }
 }
 
+// The number of an `S`; another packet has none, and 0 stands for it.
+fn number_of(number: Option<Sequence>) -> u64
+    ensures { result ≡ number_in number }
+{
+    match number {
+        Some(number) => number.0,
+        None => 0,
+    }
+}
+
 // The fields of a packet. Those of an `S`, by far the most frequent, are stored at once.
 fn with_fields(flat: FlatPiece, said: Reading, bytes: &[u8]) -> FlatPiece
-    requires { (flat.packet ≡ nothing) × (said ≡ reading_of (read bytes.now)) }
+    requires { (flat.packet ≡ nothing) × (read bytes.now told_by packet_of ≡ taken said) }
     ensures { result ≡ with_fields flat (soup_read bytes.now).packet }
 {
     let mut flat = flat;
@@ -161,24 +154,26 @@ fn with_fields(flat: FlatPiece, said: Reading, bytes: &[u8]) -> FlatPiece
             flat.packet.length = length as u64;
         }
         _ => {
-            let read = told(said, bytes);
-            let packet = read.packet;
-            flat.packet = packet;
+            flat.packet = told(said, bytes).packet;
         }
     }
     flat
 }
 
 // What the room answers; a flag that is none is 10.
-fn verdict(given: FlatPieces, buffer: &mut [u8], piece: &[u8], place: usize) -> Taken
+fn verdict(
+    given: FlatPieces,
+    buffer: &mut [u8],
+    piece: &[u8],
+    place: usize,
+) -> Result<Taken, Refusal>
     ensures { Returned (take_verdict given buffer.old piece.now place) buffer.old
         piece.now result buffer.new }
 {
-    if flag::is_flag(given.dropping) {
-        soup_pieces::take(pieces_of(given), buffer, piece, place)
-    } else {
-        Taken::Refused(Refusal::Broken)
+    if !flag::is_flag(given.dropping) {
+        return Err(Refusal::Broken);
     }
+    soup_pieces::take(pieces_of(given), buffer, piece, place)
 }
 
 // The answer's zeros are stored before the call: stored just before the answer is copied, they would hold the copy up.
@@ -188,31 +183,34 @@ pub fn take(given: FlatPieces, buffer: &mut [u8], piece: &[u8], place: u64) -> F
 {
     let none = none_ended(given);
     match verdict(given, buffer, piece, place as usize) {
-        Taken::Refused(number) => {
-            let mut flat = none;
-            flat.refusal = number as u64;
-            flat
-        }
-        Taken::UsedUp { after } => up_to(none, piece.len(), 0, 0, after),
-        Taken::Packet {
-            packet,
-            number,
-            bytes,
-            place,
-            after,
-        } => {
+        Err(why) => FlatPiece {
+            refusal: why.number() as u64,
+            ..none
+        },
+        Ok(Taken::UsedUp { after }) => up_to(none, piece.len(), 0, 0, after),
+        Ok(
+            Taken::Packet {
+                packet,
+                number,
+                bytes,
+                place,
+                after,
+            },
+        ) => {
             let mut flat = up_to(none, place, 1, bytes, after);
-            flat.number = number.0;
+            flat.number = number_of(number);
             with_fields(flat, packet, &buffer[..bytes])
         }
-        Taken::Unfit {
-            why,
-            bytes,
-            place,
-            after,
-        } => {
+        Ok(
+            Taken::Unfit {
+                why,
+                bytes,
+                place,
+                after,
+            },
+        ) => {
             let mut flat = up_to(none, place, 2, bytes, after);
-            flat.why = why as u64;
+            flat.why = why.number() as u64;
             flat
         }
     }
