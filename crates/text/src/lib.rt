@@ -22,17 +22,18 @@ pub fn is_blank(t: &[u8]) -> bool
 pub fn is_text_then_spaces(t: &[u8]) -> bool
     ensures { result ≡ text_then_spaces t.now }
 {
-    t.iter()
-        .skip_while(|&&b| is_letter_or_digit(b))
-        .all(|&b| b == b' ')
+    let end = t
+        .iter()
+        .position(|&b| !is_letter_or_digit(b))
+        .unwrap_or(t.len());
+    is_blank(&t[end..])
 }
 
 pub fn is_spaces_then_text(t: &[u8]) -> bool
     ensures { result ≡ spaces_then_text t.now }
 {
-    t.iter()
-        .skip_while(|&&b| b == b' ')
-        .all(|&b| is_letter_or_digit(b))
+    let start = t.iter().position(|&b| b != b' ').unwrap_or(t.len());
+    t[start..].iter().all(|&b| is_letter_or_digit(b))
 }
 
 pub fn is_blank_name(n: Name) -> bool
