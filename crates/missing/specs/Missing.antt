@@ -29,6 +29,6 @@ ranges so m (suc n) = if so m then ranges so (suc m) n else m before ranges so (
 unfoldable pub missing : (held next top : ℕ) → List Range
 missing held next top = ranges (is_held held next) next (top + 1 - next)
 
--- the range at a place, counted from 0; noughts where there is none, as the face tells it: the code's None, by Walking.at-or-noughts
+-- the range at a place, counted from 0; noughts where there is none, as the face tells the code's None
 abbrev pub ◌at◌ : List Range → ℕ → Range
 rs at place = get_or rs place (0 to 0)

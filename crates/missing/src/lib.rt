@@ -3,12 +3,12 @@
 
 ghost use Rattle.std.specs.Prelude.{◌≡◌, false, ◌+◌, ◌≤◌, length, slice_get};
 ghost use Rattle.missing.specs.Missing.{is_held, missing};
-ghost use Rattle.missing.specs.Runs.{LastOf, PastHeld};
+ghost use Rattle.missing.specs.Runs.{LastOf, PastHeld, Follows};
 
 use held::slots;
 use wire::kinds::Sequence;
 
-#[derive(Clone, Copy)]
+#[derive(Clone, Copy, Debug, PartialEq, Eq)]
 pub struct Range {
     pub first: Sequence,
     pub last: Sequence,
@@ -17,7 +17,7 @@ pub struct Range {
 fn is_held(held: u32, next: u64, ahead: u64) -> bool
     ensures { result ≡ is_held held next (next + ahead) }
 {
-    (1 <= ahead) & (ahead <= 31) & slots::is_ahead_full(held, next, ahead)
+    (1..=31).contains(&ahead) && slots::is_ahead_full(held, next, ahead)
 }
 
 // The last of the numbers that are missing one after another, up to `reach`.
@@ -28,17 +28,9 @@ fn last_of(held: u32, next: u64, reach: u64, first: u64) -> u64
     if held == 0 {
         return reach;
     }
-    let mut last = first;
-    while last < 31 {
-        if last == reach {
-            return reach;
-        }
-        if is_held(held, next, last + 1) {
-            return last;
-        }
-        last += 1;
-    }
-    reach
+    (first..reach.min(31))
+        .find(|&last| is_held(held, next, last + 1))
+        .unwrap_or(reach)
 }
 
 // The first number that is not held, from one on that may be.
@@ -46,11 +38,22 @@ fn past_held(held: u32, next: u64, ahead: u64) -> u64
     requires { ahead ≤ 32 }
     ensures { PastHeld (is_held held next) next ahead result }
 {
-    let mut past = ahead;
-    while is_held(held, next, past) {
-        past += 1;
+    (ahead..32)
+        .find(|&past| !is_held(held, next, past))
+        .unwrap_or(32)
+}
+
+// Where the range begins that follows the one from `first` on, if there is one.
+fn following(held: u32, next: u64, reach: u64, first: u64) -> Option<u64>
+    requires { (first ≤ reach) × (is_held held next (next + first) ≡ false) }
+    ensures { Follows (is_held held next) next reach first result }
+{
+    let last = last_of(held, next, reach, first);
+    if last == reach {
+        return None;
     }
-    past
+    let begins = past_held(held, next, last + 1);
+    (begins <= reach).then_some(begins)
 }
 
 pub fn count(held: u32, next: u64, top: u64) -> u8
@@ -59,16 +62,11 @@ pub fn count(held: u32, next: u64, top: u64) -> u8
     if top < next {
         return 0;
     }
-    let reach = top - next;
-    let mut ranges = 0;
+    let mut ranges = 1;
     let mut first = 0;
-    while first <= reach {
+    while let Some(begins) = following(held, next, top - next, first) {
         ranges += 1;
-        let last = last_of(held, next, reach, first);
-        if last == reach {
-            return ranges;
-        }
-        first = past_held(held, next, last + 1);
+        first = begins;
     }
     ranges
 }
@@ -77,25 +75,13 @@ pub fn count(held: u32, next: u64, top: u64) -> u8
 pub fn at(held: u32, next: u64, top: u64, place: u64) -> Option<Range>
     ensures { result ≡ slice_get (missing held next top) place }
 {
-    if top < next {
-        return None;
-    }
-    let reach = top - next;
-    let mut left = place;
+    let reach = top.checked_sub(next)?;
     let mut first = 0;
-    while first <= reach {
-        let last = last_of(held, next, reach, first);
-        if left == 0 {
-            return Some(Range {
-                first: Sequence(next + first),
-                last: Sequence(next + last),
-            });
-        }
-        if last == reach {
-            return None;
-        }
-        left -= 1;
-        first = past_held(held, next, last + 1);
+    for _ in 0..place {
+        first = following(held, next, reach, first)?;
     }
-    None
+    Some(Range {
+        first: Sequence(next + first),
+        last: Sequence(next + last_of(held, next, reach, first)),
+    })
 }

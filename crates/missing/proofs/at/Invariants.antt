@@ -3,14 +3,12 @@ use mathlib.Core.Path.{◌≡◌}
 use mathlib.Core.Bool.{false}
 use Rattle.std.specs.Prelude.{slice_get}
 use Rattle.missing.specs.Missing.{is_held, missing}
-use Rattle.missing.proofs.Walking.{rest}
+use Rattle.missing.specs.Runs.{ranges_from}
 use Rattle.missing.proofs.at.Given as goal
 
-abbrev pub invariant-loop-first : goal.invariant-loop-first
-invariant-loop-first l =
-    (slice_get (missing l.held l.next l.top) l.place ≡ slice_get (rest (is_held l.held l.next) l.next (l.top - l.next) l.first) l.left)
-    × (l.first ≤ 32)
+abbrev pub invariant-loop : goal.invariant-loop
+invariant-loop l =
+    (slice_get (missing l.held l.next l.top) l.place
+    ≡ slice_get (ranges_from (is_held l.held l.next) l.next (l.top - l.next) l.first) (l.place - l.counter))
+    × (l.first ≤ l.top - l.next)
     × (is_held l.held l.next (l.next + l.first) ≡ false)
-
-abbrev pub decreases-loop-first : goal.decreases-loop-first
-decreases-loop-first l = 32 - l.first
