@@ -1,3 +1,2 @@
-pub mod Entering
 pub mod FlatAndBack
 pub mod Settled

@@ -1,14 +1,13 @@
 -- Logs, and what the lending end answers.
 -- Assumes nothing.
 use Rattle.std.specs.Prelude.{ℕ, ◌≡◌, List, [], ◌∷◌}
-use Rattle.wire.specs.Checks.{Verdict, taken, ◌else◌, checked, ◌into◌}
+use Rattle.wire.specs.Checks.{Verdict, refused, taken, ◌else◌, checked, ◌into◌}
+use Rattle.wire.specs.Refusals.{number_of}
 use Rattle.wire.specs.Reply.{Reply}
 use Rattle.wire.specs.declared.refusal.Refusal.TheVariants.{Broken}
 use Rattle.lend.specs.Answer.{answer_reply, heartbeat_reply, end_packet_reply}
 use Rattle.lent_log.specs.Log.{Kept, adding, adding_many, declaring, logged_of, left_of}
 use Rattle.lent_log.specs.declared.Log.{Log}
-use Rattle.lent_log.specs.declared.Logged.{Logged}
-use Rattle.lent_log.specs.declared.Logged.TheVariants.{Refused, After}
 use Rattle.flat.specs.Flag.{is_flag, says, byte_of}
 use Rattle.flat_log.specs.declared.FlatLog.{FlatLog}
 use Rattle.flat_log.specs.declared.FlatLogged.{FlatLogged}
@@ -24,9 +23,9 @@ abbrev pub flat_log : Log → FlatLog
 flat_log l = record { count = l.count; used = l.used; ended = byte_of l.ended }
 
 -- on a refusal the log that was given
-abbrev pub flat_logged : FlatLog → Logged → FlatLogged
-flat_logged given (Refused n) = record { refusal = n; log = given }
-flat_logged given (After after) = record { refusal = 0; log = flat_log after }
+abbrev pub flat_logged : FlatLog → Verdict Log → FlatLogged
+flat_logged given (refused why) = record { refusal = number_of why; log = given }
+flat_logged given (taken after) = record { refusal = 0; log = flat_log after }
 
 -- the answer r and the bytes left are those of the verdict
 pub record FlatEntered (v : Verdict Kept) (given : FlatLog) (s : List ℕ) (r : FlatLogged) (left : List ℕ) : Type 0 where
