@@ -8,15 +8,14 @@ use native.Mathlib.Omega.{arith}
 use borrow.Author.Tests.{leb-true}
 use lib.ListN.{length, get_or, take, drop}
 use Rattle.wire.specs.Fields.{bytes_of, Bytes}
-use Rattle.wire.specs.Checks.{◌is◌, refused, taken, Check, checked, Passed}
-use Rattle.wire.specs.Datagram.{opening}
+use Rattle.wire.specs.Checks.{◌is◌, taken, Check, checked, Passed, ◌told_by◌}
 use Rattle.wire.specs.Reply.{Reply, within}
-use Rattle.wire.proofs.Numbered.{never-checked, never-taken, never-under, never-either}
+use Rattle.wire.specs.declared.refusal.Refusal.TheVariants.{UnknownType}
 use Rattle.wire.proofs.Checks.{passed-all}
 use Rattle.blocks.specs.Blocks.{frames}
 use Rattle.blocks.proofs.Counting.{count_cut}
 use Rattle.ufo.specs.Down as ufo
-use Rattle.ufo.specs.Down.{laid, write, Fit, checks_a, read_a, checks_j, read_j, checks_s, read_s, checks_e, read_e, down_of, read}
+use Rattle.ufo.specs.Down.{laid, write, Fit, down_of, read}
 use Rattle.ufo.proofs.DownLaid.{of_accept, of_reject, of_messages, of_end, length-laid, laid-accept, laid-reject, laid-messages, laid_end}
 use Rattle.ufo.proofs.Exact.{read-is-written}
 use Rattle.ufo_write.specs.WriteDown.{accept_reply, reject_reply, messages_reply, end_reply}
@@ -33,24 +32,12 @@ use Rattle.flat_ufo.specs.Writing.{down_reply}
 
 -- ---- what was read
 
--- no refusal is told as 0
-never-0 : (d : List ℕ) → read d ≡ refused 0 → ⊥
-unfolding read read_a read_j read_s read_e
-never-0 d =
-    let k = get_or d 0 0 in
-    never-checked (opening d) _ refl
-    (never-either (k is 65) _ _ (never-taken (checks_a d) _ refl)
-    (never-either (k is 74) _ _ (never-taken (checks_j d) _ refl)
-    (never-either (k is 83) _ _ (never-taken (checks_s d) _ refl)
-    (never-either (k is 69) _ _ (never-taken (checks_e d) _ refl)
-    (never-under 3 refl)))))
-
 blocks-laid : (first count : ℕ) (body : List ℕ) → drop 7 (laid first count body) ≡ body
 unfolding bytes_of
 blocks-laid first count body = refl
 
 -- a lawful packet laid flat, with its body, has its type byte and is written as that packet
-flat-again : (q : ufo.Packet) → Fit q → let p = (flat_down (length (write q)) (down_of (taken q))).packet in (p.kind ≡ get_or (write q) 0 0)
+flat-again : (q : ufo.Packet) → Fit q → let p = (flat_down (length (write q)) (taken (down_of q))).packet in (p.kind ≡ get_or (write q) 0 0)
     × ((room : ℕ) → down_reply p (body_of p (write q)) room ≡ reply_to q room)
 unfolding down_reply
 flat-again (ufo.accept session next) f = (refl, λ room. rw (same_name session (padded-right-text 10 session (f.ten, f.letters))))
@@ -65,9 +52,9 @@ flat-again (ufo.end total) f = (refl, λ room. refl)
 module _ (d : List ℕ) (b : Bytes d) where
   round : (down_read d).refusal ≡ 0 → Round down_reply d (down_read d).packet
   round =
-      rounds Fit write (λ size v. flat_down size (down_of v)) down_reply
+      rounds Fit write (λ size v. flat_down size (v told_by down_of)) down_reply
       (λ q f. let a = flat-again q f in (a.0, λ room. a.1 room ∙ lawful-reply q room f))
-      d (read d) (read-is-written d b) (never-0 d) (λ n. refl)
+      d (read d) (read-is-written d b) (λ why. refl)
 
   -- What was read, written with its body, is the same bytes.
   pub read-then-written : (room : ℕ) → (down_read d).refusal ≡ 0
@@ -98,7 +85,7 @@ module _ (p : Packet) (f : Flat p) (body : List ℕ) (room : ℕ) (d : List ℕ)
   -- a type without a body
   alone-as : (q : ufo.Packet) (cs : List Check) (size : ℕ) (reply : Reply) → reply ≡ checked cs (within room (write q))
       → (Passed cs → read (write q) ≡ checked cs (taken q)) → alone 1472 size body reply ≡ taken d
-      → down_read d ≡ flat_down (length d) (down_of (taken q))
+      → down_read d ≡ flat_down (length d) (taken (down_of q))
   alone-as q cs size reply says decide e =
       rw (given read cs q (write q) room d (λ c. decide c ∙ passed-all cs (taken q) c)
       (sym says ∙ (given-no-body 1472 size body reply d e).1)).back
@@ -136,4 +123,4 @@ module _ (p : Packet) (f : Flat p) (body : List ℕ) (room : ℕ) (d : List ℕ)
       (alone-as (ufo.reject reason) (of_reject reason) 2 (reject_reply reason room) (reject-reply reason room) (λ _. laid-reject reason))
       (given-by-kind As p.kind 83 _ _ d messages-as
       (given-by-kind As p.kind 69 _ _ d end-as
-      (unfit-not-given 1472 (1 + length body) 3 d))))
+      (unfit-not-given 1472 (1 + length body) UnknownType d))))

@@ -4,6 +4,7 @@ use Rattle.std.specs.Prelude.{ℕ, ◌+◌, List, length, if◌then◌else◌}
 use Rattle.wire.specs.Checks.{◌is◌}
 use Rattle.wire.specs.Datagram.{limit}
 use Rattle.wire.specs.Reply.{Reply}
+use Rattle.wire.specs.declared.refusal.Refusal.TheVariants.{UnknownType}
 use Rattle.ufo_write.specs.WriteDown.{accept_reply, reject_reply, messages_reply, end_reply}
 use Rattle.flat_packet.specs.declared.Packet.{Packet}
 use Rattle.flat_packet.specs.Fitting.{unfit, alone}
@@ -15,4 +16,4 @@ down_reply p body room =
     if p.kind is 74 then alone limit 2 body (reject_reply p.reason room) else
     if p.kind is 83 then messages_reply p.number p.count body room else
     if p.kind is 69 then alone limit 5 body (end_reply p.number room) else
-    unfit limit (1 + length body) 3
+    unfit limit (1 + length body) UnknownType

@@ -4,7 +4,7 @@
 ghost use Rattle.std.specs.Prelude.{◌≡◌, length};
 ghost use Rattle.wire.specs.Reply.{Settled};
 ghost use Rattle.flat.specs.Wrote.{FlatSettled};
-ghost use Rattle.flat_ufo.specs.Reading.{flat_down, down_read};
+ghost use Rattle.flat_ufo.specs.Reading.{flat_said, down_read};
 ghost use Rattle.flat_ufo.specs.Writing.{down_reply};
 
 use flat::name::name_of;
@@ -19,10 +19,9 @@ use wire::refusal::Refusal;
 
 // The packet has `size` bytes.
 fn flat_of(said: Down, size: u64) -> Read
-    ensures { result ≡ flat_down size said }
+    ensures { result ≡ flat_said size said }
 {
     match said {
-        Down::Refused(n) => flat_packet::no_packet(n),
         Down::Accept { session, next } => flat_packet::named(names::name_bytes(session), next.0),
         Down::Reject { reason } => flat_packet::rejected(reason),
         Down::Messages { first, count } => flat_packet::counted(b'S', 0, first.0, count, 7, size),
@@ -33,38 +32,36 @@ fn flat_of(said: Down, size: u64) -> Read
 pub fn read(packet: &[u8]) -> Read
     ensures { result ≡ down_read packet.now }
 {
-    flat_of(ufo::down::read_down(packet), packet.len() as u64)
+    match ufo::down::read_down(packet) {
+        Err(why) => flat_packet::no_packet(why),
+        Ok(said) => flat_of(said, packet.len() as u64),
+    }
 }
 
 fn written(fields: Packet, body: &[u8], out: &mut [u8]) -> Result<usize, Refusal>
     ensures { Settled (down_reply fields body.now (length out.old))
         out.old result out.new }
 {
-    let kind = fields.kind;
-    let number = fields.number;
-    let count = fields.count;
-    match kind {
+    let number = Sequence(fields.number);
+    match fields.kind {
         b'A' => {
             if body.len() != 0 {
                 return unfit(LIMIT, 15, body, Refusal::Framing);
             }
-            let text = fields.name;
-            let name = name_of(&text);
-            ufo_write::write_accept(name, Sequence(number), out)
+            ufo_write::write_accept(name_of(&fields.name), number, out)
         }
         b'J' => {
             if body.len() != 0 {
                 return unfit(LIMIT, 2, body, Refusal::Framing);
             }
-            let reason = fields.reason;
-            ufo_write::write_reject(reason, out)
+            ufo_write::write_reject(fields.reason, out)
         }
-        b'S' => ufo_write::write_messages(Sequence(number), count, body, out),
+        b'S' => ufo_write::write_messages(number, fields.count, body, out),
         b'E' => {
             if body.len() != 0 {
                 return unfit(LIMIT, 5, body, Refusal::Framing);
             }
-            ufo_write::write_end(Sequence(number), out)
+            ufo_write::write_end(number, out)
         }
         _ => unfit(LIMIT, 1, body, Refusal::UnknownType),
     }

@@ -10,6 +10,8 @@ use lib.Dec.{leb}
 use lib.ListN.{length, length-append}
 use Rattle.wire.specs.Checks.{refused}
 use Rattle.wire.specs.Reply.{Reply, settle}
+use Rattle.wire.specs.declared.refusal.Refusal.{Refusal}
+use Rattle.wire.specs.declared.refusal.Refusal.TheVariants.{UnknownType, Framing}
 use Rattle.wire.proofs.Width.{length-bytes_of}
 use Rattle.blocks.specs.Blocks.{frame}
 use Rattle.ufo_up.specs.Up.{Message, login, request, heartbeat, logout, write_message, read_message, read_up}
@@ -23,8 +25,9 @@ use Rattle.flat_packet.proofs.Refusing.{None, stands}
 abbrev sent : List ℕ → ℕ → Reply
 sent m room = settle (read_up (frame m)) (frame m) room
 
-refuses : (m : List ℕ) (n size room : ℕ) → 2 + length m ≡ size → 0 < length m → read_message m ≡ refused n → unfit 1472 size n ≡ sent m room
-refuses m n size room l h e = rw (read_one m h, e, ← l) (stands _ (frame m) room (leb (2 + length m) 1472) n)
+refuses : (m : List ℕ) (why : Refusal) (size room : ℕ) → 2 + length m ≡ size → 0 < length m → read_message m ≡ refused why
+    → unfit 1472 size why ≡ sent m room
+refuses m why size room l h e = rw (read_one m h, e, ← l) (stands _ (frame m) room (leb (2 + length m) 1472) why)
 
 module _ (p : Packet) (body : List ℕ) (room : ℕ) where
   pub unknown-type : None (76 ∷ 84 ∷ 85 ∷ 82 ∷ 79 ∷ []) p.kind → message_reply p body room ≡ sent (p.kind ∷ body) room
@@ -35,7 +38,7 @@ module _ (p : Packet) (body : List ℕ) (room : ℕ) where
       let d = ne_eqb p.kind 85 u.1.1.0 in
       let r = ne_eqb p.kind 82 u.1.1.1.0 in
       let o = ne_eqb p.kind 79 u.1.1.1.1.0 in
-      rw (l, t, d, r, o) (refuses (p.kind ∷ body) 3 (3 + length body) room (omega arith) (omega arith) (rw (l, t, d, r, o)))
+      rw (l, t, d, r, o) (refuses (p.kind ∷ body) UnknownType (3 + length body) room (omega arith) (omega arith) (rw (l, t, d, r, o)))
 
   module _ (h : 0 < length body) where
     -- a message of a type that has no body, whose block has `size` bytes without one
@@ -45,7 +48,7 @@ module _ (p : Packet) (body : List ℕ) (room : ℕ) where
         let w = write_message m ++ body in
         let n : 2 + length w ≡ size + length body = rw length-append (omega arith) in
         rw (ne_eqb (length body) 0 (λ z. omega arith))
-        (refuses w 4 (size + length body) room n (rw length-append (omega arith)) (longer-is-4 body h m f))
+        (refuses w Framing (size + length body) room n (rw length-append (omega arith)) (longer-is-4 body h m f))
 
     pub login-with-body : p.kind ≡ 76 → length p.user ≡ 6 → length p.password ≡ 10 → length p.name ≡ 10
         → message_reply p body room ≡ sent (write_message (login p.user p.password p.name) ++ body) room

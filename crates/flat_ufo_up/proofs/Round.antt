@@ -10,22 +10,19 @@ use borrow.Author.Tests.{eqb-true, leb-true, not-true}
 use lib.ListN.{length, get_or, take, drop, length-append}
 use lib.Seq.{take_at, drop_at, drop-drop, get_or-drop}
 use Rattle.wire.specs.Fields.{bytes_of, Bytes}
-use Rattle.wire.specs.Checks.{◌is◌, ◌at_most◌, ◌else◌, Check, checked, Passed, Verdict, refused, taken, ◌into◌}
-use Rattle.wire.specs.Datagram.{opening}
+use Rattle.wire.specs.Checks.{◌is◌, ◌at_most◌, ◌else◌, Check, checked, Passed, Verdict, refused, taken, ◌told_by◌}
 use Rattle.wire.specs.Reply.{within}
-use Rattle.wire.specs.declared.refusal.Refusal.TheVariants.{Overlong, Framing, Bound}
+use Rattle.wire.specs.declared.refusal.Refusal.TheVariants.{Overlong, UnknownType, Framing, Bound}
 use Rattle.text.specs.Text.{blank}
 use Rattle.wire.proofs.Tests.{nonzero}
-use Rattle.wire.proofs.Numbered.{never-checked, never-taken, never-under, never-either}
 use Rattle.wire.proofs.Checks.{not-both, taken-same, chosen, went}
 use Rattle.wire.proofs.Width.{be-bytes_of, length-bytes_of}
-use Rattle.blocks.specs.Blocks.{frame, frames, Cut, torn, whole, upstream, stated, end_at}
+use Rattle.blocks.specs.Blocks.{frame, frames, stated, end_at}
 use Rattle.blocks.proofs.Frames.{length-frame, front-stated}
 use Rattle.ufo.specs.Numbers.{highest, held}
 use Rattle.ufo_up.specs.Up as up
 use Rattle.ufo_up.specs.Up.{Message, write_message, write_up, FitMessage, FitAll}
-use Rattle.ufo_up.specs.Up.{checks_l, checks_t, checks_u, checks_alone, read_l, read_t, read_u}
-use Rattle.ufo_up.specs.Up.{read_alone, read_message, read_each, read_cut, read_up, upstream_of, up_of, message_from, message_in}
+use Rattle.ufo_up.specs.Up.{read_up, placed_of, message_from, message_in}
 use Rattle.ufo_up.proofs.UpExactOne.{length-message, left_l, left_t}
 use Rattle.ufo_up.proofs.Exact.{read-is-written, read_one}
 use Rattle.ufo_up_write.specs.WriteUp.{reply}
@@ -41,44 +38,6 @@ use Rattle.flat_ufo_up.specs.Writing.{message_reply}
 
 -- ---- what was read
 
--- no refusal is told as 0
-never-into : {A B : Type 0} (v : Verdict A) (next : A → Verdict B) → (v ≡ refused 0 → ⊥) → ((a : A) → next a ≡ refused 0 → ⊥)
-    → v into next ≡ refused 0 → ⊥
-never-into (refused n) next f g e = let z : n ≡ 0 = cc in f (rw z)
-never-into (taken a) next f g e = g a e
-
-message-never-0 : (m : List ℕ) → read_message m ≡ refused 0 → ⊥
-unfolding read_message read_l read_t read_u read_alone
-message-never-0 m =
-    let k = get_or m 0 0 in
-    never-either (k is 76) _ _ (never-taken (checks_l m) _ refl)
-    (never-either (k is 84) _ _ (never-taken (checks_t m) _ refl)
-    (never-either (k is 85) _ _ (never-taken (checks_u m) _ refl)
-    (never-either (k is 82) _ _ (never-taken (checks_alone m) _ refl)
-    (never-either (k is 79) _ _ (never-taken (checks_alone m) _ refl)
-    (never-under 3 refl)))))
-
-each-never-0 : (bs : List (List ℕ)) → read_each bs ≡ refused 0 → ⊥
-unfolding read_each
-each-never-0 [] = never-taken [] _ refl
-each-never-0 (b ∷ bs) =
-    never-into (read_message b) _ (message-never-0 b) (λ m. never-into (read_each bs) _ (each-never-0 bs) (λ ms. never-taken [] _ refl))
-
-cut-never-0 : (c : Cut) → read_cut c ≡ refused 0 → ⊥
-cut-never-0 torn = never-under 4 refl
-cut-never-0 (whole bs) = each-never-0 bs
-
-from-never-0 : (at : ℕ) (ms : List Message) (place : ℕ) → message_from at ms place ≡ refused 0 → ⊥
-unfolding message_from
-from-never-0 at [] place = never-under 4 refl
-from-never-0 at (m ∷ ms) place =
-    never-either (at is place) _ _ (never-taken [] m refl) (from-never-0 (at + 2 + length (write_message m)) ms place)
-
-never-0 : (d : List ℕ) (place : ℕ) → message_in d place ≡ refused 0 → ⊥
-unfolding read_up
-never-0 d place =
-    never-into (read_up d) _ (never-checked (opening d) _ refl (cut-never-0 (upstream d))) (λ ms. from-never-0 0 ms place)
-
 -- a message whose block stands at a place of s, counted from `at` on
 record Found (s : List ℕ) (at place : ℕ) (m : Message) : Type 0 where
   skipped : ℕ
@@ -90,7 +49,7 @@ record Found (s : List ℕ) (at place : ℕ) (m : Message) : Type 0 where
 found_from : (ms : List Message) (at place : ℕ) (m : Message) → FitAll ms → message_from at ms place ≡ taken m
     → Found (write_up ms) at place m
 unfolding message_from frames
-found_from [] at place m f e = not-both (refused Framing) 4 m refl e
+found_from [] at place m f e = not-both (refused Framing) Framing m refl e
 found_from (x ∷ ms) at place m f e =
     let w = write_message x in
     let next = at + 2 + length w in
@@ -141,7 +100,7 @@ body-stands d place b after f s =
 
 -- laid flat, with its body, it has its type byte and is written as that message
 flat-again : (d : List ℕ) (place : ℕ) (m : Message) (after : List ℕ) → FitMessage m → drop place d ≡ frame (write_message m) ++ after
-    → let p = (flat_up (up_of (end_at d place) (taken m))).packet in (p.kind ≡ get_or (write_message m ++ after) 0 0)
+    → let p = (flat_up (taken (placed_of (end_at d place) m))).packet in (p.kind ≡ get_or (write_message m ++ after) 0 0)
     × ((room : ℕ) → message_reply p (body_of p d) room ≡ reply m room)
 unfolding message_reply
 flat-again d place (up.login user password session) after f s = (
@@ -164,7 +123,7 @@ module _ (d : List ℕ) (b : Bytes d) (place : ℕ) where
 
   round : (message_read d place).refusal ≡ 0 → RoundAt (message_read d place).packet
   round =
-      told-as-0 (λ v. flat_up (up_of (end_at d place) v)) (λ r. RoundAt r.packet) (λ n. refl) (message_in d place) (never-0 d place)
+      told-as-0 (λ v. flat_up (v told_by placed_of (end_at d place))) (λ r. RoundAt r.packet) (λ why. refl) (message_in d place)
       (λ m e.
       let r = found d b place m e in
       let same : r.skipped ≡ place = omega (arith, r.there) in
@@ -185,8 +144,8 @@ module _ (d : List ℕ) (b : Bytes d) (place : ℕ) where
 -- A whole upstream packet has none: its kind is 0.
 pub upstream-has-no-kind : (d : List ℕ) → (up_read d).packet.kind ≡ 0
 upstream-has-no-kind d = by (read_up d) where
-  by : (v : Verdict (List Message)) → (flat_upstream (upstream_of v)).packet.kind ≡ 0
-  by (refused n) = refl
+  by : (v : Verdict (List Message)) → (flat_upstream (v told_by length)).packet.kind ≡ 0
+  by (refused why) = refl
   by (taken ms) = refl
 
 -- ---- what was written
@@ -208,19 +167,19 @@ module _ (p : Packet) (f : Flat p) (body : List ℕ) (b : Bytes body) (room : �
 
   -- a message of so many bytes
   message-as : (m : Message) (size : ℕ) (cs : List Check) → (Passed cs → FitMessage m) → length (write_message m) ≡ size
-      → checked cs (within room (frame (write_message m))) ≡ taken d → message_read d 0 ≡ flat_up (up_of (2 + size) (taken m))
+      → checked cs (within room (frame (write_message m))) ≡ taken d → message_read d 0 ≡ flat_up (taken (placed_of (2 + size) m))
   unfolding message_from
   message-as m size cs fit l e =
       let w = write_message m in
       let g = given read_up cs (m ∷ []) (frame w) room d (λ c. read_one m (fit c)) e in
       let says : stated (frame w) ≡ size = be-bytes_of 2 (length w) w (omega (arith, length-message m (fit g.passed))) ∙ l in
       let end : end_at d 0 ≡ 2 + size = rw (← g.same, says) in
-      rw g.back (ap (λ (next : ℕ). flat_up (up_of next (taken m))) end)
+      rw g.back (ap (λ (next : ℕ). flat_up (taken (placed_of next m))) end)
 
   -- and without a body
   alone-as : (m : Message) (size : ℕ) (cs : List Check) → (Passed cs → FitMessage m) → length (write_message m) ≡ size
       → reply m room ≡ checked cs (within room (frame (write_message m))) → alone 1472 (2 + size) body (reply m room) ≡ taken d
-      → message_read d 0 ≡ flat_up (up_of (2 + size) (taken m))
+      → message_read d 0 ≡ flat_up (taken (placed_of (2 + size) m))
   alone-as m size cs fit l says e = message-as m size cs fit l (sym says ∙ (given-no-body 1472 (2 + size) body (reply m room) d e).1)
 
   login-as : alone 1472 29 body (reply (up.login p.user p.password p.name) room) ≡ taken d
@@ -262,4 +221,4 @@ module _ (p : Packet) (f : Flat p) (body : List ℕ) (b : Bytes body) (room : �
       (given-by-kind As p.kind 85 _ _ d unsequenced-as
       (given-by-kind As p.kind 82 _ _ d (alone-as up.heartbeat 1 [] (λ _. tt) refl (reply-fit up.heartbeat room tt))
       (given-by-kind As p.kind 79 _ _ d (alone-as up.logout 1 [] (λ _. tt) refl (reply-fit up.logout room tt))
-      (unfit-not-given 1472 (3 + length body) 3 d)))))
+      (unfit-not-given 1472 (3 + length body) UnknownType d)))))

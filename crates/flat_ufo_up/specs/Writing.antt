@@ -4,6 +4,7 @@ use Rattle.std.specs.Prelude.{ℕ, ◌+◌, List, length, if◌then◌else◌}
 use Rattle.wire.specs.Checks.{◌is◌}
 use Rattle.wire.specs.Datagram.{limit}
 use Rattle.wire.specs.Reply.{Reply}
+use Rattle.wire.specs.declared.refusal.Refusal.TheVariants.{UnknownType}
 use Rattle.ufo_up.specs.Up as up
 use Rattle.ufo_up_write.specs.WriteUp as ufo
 use Rattle.flat_packet.specs.declared.Packet.{Packet}
@@ -18,4 +19,4 @@ message_reply p body room =
     if p.kind is 85 then ufo.reply (up.unsequenced body) room else
     if p.kind is 82 then alone limit 3 body (ufo.reply up.heartbeat room) else
     if p.kind is 79 then alone limit 3 body (ufo.reply up.logout room) else
-    unfit limit (3 + length body) 3
+    unfit limit (3 + length body) UnknownType

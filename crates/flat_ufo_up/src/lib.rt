@@ -6,7 +6,7 @@ ghost use Rattle.wire.specs.Reply.{Settled};
 ghost use Rattle.ufo_up.specs.Up.{login};
 ghost use Rattle.ufo_up_write.specs.WriteUp.{reply};
 ghost use Rattle.flat.specs.Wrote.{FlatSettled};
-ghost use Rattle.flat_ufo_up.specs.Reading.{flat_up, up_read, message_read};
+ghost use Rattle.flat_ufo_up.specs.Reading.{flat_message, up_read, message_read};
 ghost use Rattle.flat_ufo_up.specs.Writing.{message_reply};
 
 use flat::name::{name_of, user_of};
@@ -14,7 +14,7 @@ use flat::wrote;
 use flat::wrote::Wrote;
 use flat_packet::fitting::unfit;
 use flat_packet::{Packet, Read};
-use ufo_up::up::{Up, Upstream};
+use ufo_up::up::Up;
 use wire::datagram::LIMIT;
 use wire::kinds::{Password, Sequence};
 use wire::refusal::Refusal;
@@ -24,57 +24,52 @@ pub fn read(packet: &[u8]) -> Read
     ensures { result ≡ up_read packet.now }
 {
     match ufo_up::up::read_up(packet) {
-        Upstream::Refused(n) => flat_packet::no_packet(n),
-        Upstream::Messages(count) => flat_packet::requested(0, 0, count as u16, 0),
+        Err(why) => flat_packet::no_packet(why),
+        Ok(count) => flat_packet::requested(0, 0, count as u16, 0),
     }
 }
 
-fn flat_of(said: Up) -> Read
-    ensures { result ≡ flat_up said }
+// The next message stands at `next`.
+fn flat_of(said: Up, next: u64) -> Read
+    ensures { result ≡ flat_message said next }
 {
     match said {
-        Up::Refused(n) => flat_packet::no_packet(n),
         Up::Login {
             user,
             password,
             session,
-            next,
         } => flat_packet::logged_in(
             names::user_bytes(user),
             names::name_bytes(password.0),
             names::name_bytes(session),
             0,
-            next as u64,
-        ),
-        Up::Request { first, count, next } => {
-            flat_packet::requested(b'T', first.0, count, next as u64)
-        }
-        Up::Unsequenced {
-            start,
-            length,
             next,
-        } => flat_packet::payload(b'U', start as u64, length as u64, next as u64),
-        Up::Heartbeat { next } => flat_packet::bare(b'R', next as u64),
-        Up::Logout { next } => flat_packet::bare(b'O', next as u64),
+        ),
+        Up::Request { first, count } => flat_packet::requested(b'T', first.0, count, next),
+        Up::Unsequenced { start, length } => {
+            flat_packet::payload(b'U', start as u64, length as u64, next)
+        }
+        Up::Heartbeat => flat_packet::bare(b'R', next),
+        Up::Logout => flat_packet::bare(b'O', next),
     }
 }
 
 pub fn read_message(packet: &[u8], place: u64) -> Read
     ensures { result ≡ message_read packet.now place }
 {
-    flat_of(ufo_up::up::read_message(packet, place as usize))
+    match ufo_up::up::read_message(packet, place as usize) {
+        Err(why) => flat_packet::no_packet(why),
+        Ok(placed) => flat_of(placed.message, placed.next as u64),
+    }
 }
 
 fn login_written(fields: Packet, out: &mut [u8]) -> Result<usize, Refusal>
     ensures { Settled (reply (login fields.user fields.password fields.name) (length out.old))
         out.old result out.new }
 {
-    let user_text = fields.user;
-    let password_text = fields.password;
-    let name_text = fields.name;
-    let user = user_of(&user_text);
-    let password = Password(name_of(&password_text));
-    let name = name_of(&name_text);
+    let user = user_of(&fields.user);
+    let password = Password(name_of(&fields.password));
+    let name = name_of(&fields.name);
     ufo_up_write::write_login(user, password, name, out)
 }
 
@@ -82,10 +77,7 @@ fn written(fields: Packet, body: &[u8], out: &mut [u8]) -> Result<usize, Refusal
     ensures { Settled (message_reply fields body.now (length out.old))
         out.old result out.new }
 {
-    let kind = fields.kind;
-    let number = fields.number;
-    let count = fields.count;
-    match kind {
+    match fields.kind {
         b'L' => {
             if body.len() != 0 {
                 return unfit(LIMIT, 29, body, Refusal::Framing);
@@ -96,7 +88,7 @@ fn written(fields: Packet, body: &[u8], out: &mut [u8]) -> Result<usize, Refusal
             if body.len() != 0 {
                 return unfit(LIMIT, 9, body, Refusal::Framing);
             }
-            ufo_up_write::write_request(Sequence(number), count, out)
+            ufo_up_write::write_request(Sequence(fields.number), fields.count, out)
         }
         b'U' => ufo_up_write::write_unsequenced(body, out),
         b'R' => {

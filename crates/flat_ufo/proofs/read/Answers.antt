@@ -1,4 +1,0 @@
-use Rattle.flat_ufo.proofs.read.Goals as goal
-
-pub returns : goal.returns
-returns c = rw (c.flat_of.ensures, c.read_down.ensures)
