@@ -170,11 +170,13 @@ impl Tape {
             Err(why) => page::refused(rt, why),
             Ok(Asked::Nothing) => print!(rt; "\n= nothing"),
             Ok(Asked::Wait) => print!(rt; "\n= wait"),
-            Ok(Asked::Request {
-                first,
-                count,
-                after,
-            }) => {
+            Ok(
+                Asked::Request {
+                    first,
+                    count,
+                    after,
+                },
+            ) => {
                 page::counted(rt, "\n= asks from ", first, count)?;
                 self.kept = after;
                 tell(rt, after)
