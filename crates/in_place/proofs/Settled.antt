@@ -7,7 +7,9 @@ use prog.Memory.{Memory}
 use prog.Routine.{Routine}
 use types.Logic.{Logic}
 use contract.Monad.{Fun}
+use Rattle.std.specs.Coded.{coded_result}
 use Rattle.wire.proofs.Outcomes.{Determines, same-both, by-facts}
+use Rattle.wire.specs.contracts.refusal.Refusal as refusal
 use Rattle.record.specs.contracts.Record as kept
 use Rattle.taking.specs.contracts.Taken as taken
 use Rattle.asking.specs.contracts.Asked as asked
@@ -17,7 +19,7 @@ use Rattle.in_place.specs.contracts.ask_lent as ask-lent
 module _ {M : Type 1} {𝓤 : Ura M} (𝓛 : Logic 𝓤) (mem : Memory → SProp 𝓤) (run : Routine → Fun 𝓤) where
   take-lent-is : Determines 𝓤 take-lent.ended (take-lent.clauses 𝓛 mem run)
   take-lent-is κs a g x y s t p q =
-      by-facts 𝓤 p q (taken.the_row).coded
+      by-facts 𝓤 p q (coded_result (taken.the_row).coded (refusal.the_row).coded)
       (coded× (kept.the_row).coded (coded× (coded_list coded_ℕ) (coded× coded_unit (coded× (coded_list coded_ℕ) coded_unit))))
       (λ h k. same-both h.answered.answer k.answered.answer
       (λ i. (h.stored i, (h.answered.slots i, (tt, (h.answered.bytes i, tt)))))
@@ -25,6 +27,6 @@ module _ {M : Type 1} {𝓤 : Ura M} (𝓛 : Logic 𝓤) (mem : Memory → SProp
 
   ask-lent-is : Determines 𝓤 ask-lent.ended (ask-lent.clauses 𝓛 mem run)
   ask-lent-is κs a g x y s t p q =
-      by-facts 𝓤 p q (asked.the_row).coded
+      by-facts 𝓤 p q (coded_result (asked.the_row).coded (refusal.the_row).coded)
       (coded× (kept.the_row).coded (coded× coded_unit (coded× coded_unit (coded× coded_unit coded_unit))))
       (λ h k. same-both h.answer k.answer (λ i. (h.stored i, (tt, (tt, (tt, tt))))) (λ i. (k.stored i, (tt, (tt, (tt, tt))))))

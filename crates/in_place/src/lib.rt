@@ -11,42 +11,35 @@ use clock::patience::Patience;
 use clock::sheet::Sheet;
 use record::Record;
 use taking::{Taken, take};
+use wire::refusal::Refusal;
 
 // The same answers as `take`.
-pub fn take_lent(kept: &mut Record, area: &mut [u8], datagram: &[u8], out: &mut [u8]) -> Taken
+pub fn take_lent(
+    kept: &mut Record,
+    area: &mut [u8],
+    datagram: &[u8],
+    out: &mut [u8],
+) -> Result<Taken, Refusal>
     ensures { TakenLent (taking kept.old area.old datagram.now (length out.old))
         kept.old area.old out.old result area.new out.new kept.new }
 {
-    let was = *kept;
-    let taken = take(was, area, datagram, out);
-    match taken {
-        Taken::Took {
-            bytes: _,
-            messages: _,
-            after,
-        } => {
-            *kept = after;
-        }
-        Taken::Refused(_) => {}
-    }
-    taken
+    let taken = take(*kept, area, datagram, out)?;
+    *kept = taken.after;
+    Ok(taken)
 }
 
 // The same answers as `ask`.
-pub fn ask_lent(kept: &mut Record, sheet: Sheet, rule: Patience, elapsed: f64) -> Asked
+pub fn ask_lent(
+    kept: &mut Record,
+    sheet: Sheet,
+    rule: Patience,
+    elapsed: f64,
+) -> Result<Asked, Refusal>
     ensures { AskedLent (asking kept.old sheet rule elapsed) kept.old result kept.new }
 {
-    let was = *kept;
-    let asked = ask(was, sheet, rule, elapsed);
-    match asked {
-        Asked::Request {
-            first: _,
-            count: _,
-            after: marked,
-        } => {
-            *kept = marked;
-        }
-        _ => {}
+    let asked = ask(*kept, sheet, rule, elapsed)?;
+    if let Asked::Request { after, .. } = asked {
+        *kept = after;
     }
-    asked
+    Ok(asked)
 }
