@@ -6,7 +6,7 @@ use mathlib.Core.List.{List, [], ◌∷◌, ◌++◌, append-nil}
 use native.Mathlib.Omega.{arith}
 use lib.ListN.{length, drop}
 use lib.Seq.{take-append_seam}
-use Rattle.wire.specs.Checks.{Verdict, refused, taken}
+use Rattle.wire.specs.Checks.{Verdict, refused, taken, ◌told_by◌}
 use Rattle.wire.specs.Reply.{Reply, Settled}
 use Rattle.wire.specs.declared.kinds.Sequence.{Sequence}
 use Rattle.wire.specs.Fields.{Bytes}
@@ -16,7 +16,7 @@ use Rattle.blocks.proofs.Cutting.{cut-frames}
 use Rattle.ufo_up.specs.Up.{Message, login, request, unsequenced, heartbeat, logout, read_up, upstream_of, up_of}
 use Rattle.ufo_up.proofs.UpInTurn.{InTurn, in-turn}
 use Rattle.lent_log.specs.Log.{Kept, declaring, logged_of, Entered}
-use Rattle.lent_log.specs.declared.Logged.{Logged}
+use Rattle.lent_log.specs.declared.Log.{Log}
 use Rattle.lent_log.proofs.Adding.{declared}
 use Rattle.taking.specs.Taking.{Taking, taking, taken_of, Answered}
 use Rattle.asking.specs.Asking.{Wish, nothing, wait, request as wanted, asking, asked_of}
@@ -33,13 +33,13 @@ use Rattle.session.proofs.EveryStep.{took-so, fits, vouched-if-taken}
 use Rattle.session.proofs.Telling.{opened-left, standing-left}
 
 -- what enters the log
-log-left : (s : State) (v : Verdict Kept) (r : Logged) (left : List ℕ) → Entered v s.lent r left → with_log s r left ≡ logging s v
+log-left : (s : State) (v : Verdict Kept) (r : Verdict Log) (left : List ℕ) → Entered v s.lent r left → with_log s r left ≡ logging s v
 log-left s (refused n) r left e = rw (e.answer, e.bytes)
 log-left s (taken k) r left e = rw (e.answer, e.bytes)
 
-end-left : (s : State) (r : Logged) → r ≡ logged_of (declaring s.log s.lent) → with_log s r s.lent ≡ step s declares
+end-left : (s : State) (r : Verdict Log) → r ≡ (declaring s.log s.lent told_by logged_of) → with_log s r s.lent ≡ step s declares
 end-left s r e = by (declaring s.log s.lent) refl e where
-  by : (v : Verdict Kept) → declaring s.log s.lent ≡ v → r ≡ logged_of v → with_log s r s.lent ≡ logging s v
+  by : (v : Verdict Kept) → declaring s.log s.lent ≡ v → r ≡ (v told_by logged_of) → with_log s r s.lent ≡ logging s v
   by (refused n) d q = rw q
   by (taken k) d q = rw (q, (declared s.log s.lent k d).3)
 
@@ -54,13 +54,13 @@ answer-left : (s : State) (room : ℕ) (first : Sequence) (count : ℕ) (left : 
     → left (to_message s room (request first.0 count)) → LeavesAnswered s room first count left
 answer-left s room first count left l κs a x e g p = rw (datagram-left _ _ x _ (rw (g.0, g.1, g.2, g.3, g.4) at p)) l
 
-message-left : (s : State) (room next : ℕ) (more : List (List ℕ)) (on : ℕ → (List (List ℕ) → Type 0) → Type 0)
-    → ((left : List (List ℕ) → Type 0) → left more → on next left)
+message-left : (s : State) (room next : ℕ) (more : List (List ℕ)) (on : (List (List ℕ) → Type 0) → Type 0)
+    → ((left : List (List ℕ) → Type 0) → left more → on left)
     → (m : Message) (left : List (List ℕ) → Type 0) → left (to_message s room m ++ more)
-    → LeavesMessage s room (up_of next (taken m)) on left
+    → LeavesMessage s room (up_of next m) on left
 message-left s room next more on goes (login user password session) left l = goes left l
 message-left s room next more on goes (request first count) left l =
-    answer-left s room (record { 0 = first }) count (λ answer. on next (λ answers. left (answer ++ answers)))
+    answer-left s room (record { 0 = first }) count (λ answer. on (λ answers. left (answer ++ answers)))
     (goes (λ answers. left (to_message s room (request first count) ++ answers)) l)
 message-left s room next more on goes (unsequenced bytes) left l = goes left l
 message-left s room next more on goes heartbeat left l = goes left l
@@ -71,26 +71,26 @@ each_left : (s : State) (room : ℕ) (d : List ℕ) (ms : List Message) (place :
 each_left s room d [] place left t l = l
 each_left s room d (m ∷ ms) place left t l =
     λ κs a x e g p. rw (p, g.0, g.1, t.0)
-    (message-left s room (end_at d place) (to_each s room ms) (LeavesEach s room d (length ms))
+    (message-left s room (end_at d place) (to_each s room ms) (LeavesEach s room d (length ms) (end_at d place))
     (λ then. each_left s room d ms (end_at d place) then t.1) m left l)
 
-packet-left : (s : State) (room : ℕ) (d : List ℕ) → Bytes d → LeavesServed s room d (upstream_of (read_up d))
+packet-left : (s : State) (room : ℕ) (d : List ℕ) → Bytes d → LeavesServed s room d (read_up d told_by length)
     (λ answers. sending s answers ≡ step s (serves d room))
 unfolding to_packet
 packet-left s room d b = by (read_up d) refl where
   by : (v : Verdict (List Message)) → read_up d ≡ v
-      → LeavesServed s room d (upstream_of v) (λ answers. sending s answers ≡ sending s (to_packet s room v))
+      → LeavesServed s room d (v told_by length) (λ answers. sending s answers ≡ sending s (to_packet s room v))
   by (refused n) e = refl
   by (taken ms) e = each_left s room d ms 0 _ (in-turn d b ms e) refl
 
 -- what the recorder delivers, and the area that it leaves
-pub delivery-left : (s : State) (i : Inv s) (d : List ℕ) → Known s d → (room : ℕ) (out : List ℕ) (r : Taken) (area left : List ℕ)
+pub delivery-left : (s : State) (i : Inv s) (d : List ℕ) → Known s d → (room : ℕ) (out : List ℕ) (r : Verdict Taken) (area left : List ℕ)
     (kept : Record)
     → Answered (taking s.kept s.area d room) s.area out r area left
-    → kept ≡ once_taken s.kept (taken_of (taking s.kept s.area d room)) → with_taken s r area left kept ≡ step s (takes d room)
+    → kept ≡ once_taken s.kept (taking s.kept s.area d room told_by taken_of) → with_taken s r area left kept ≡ step s (takes d room)
 delivery-left s i d known room out r area left kept e k = by (taking s.kept s.area d room) refl e k where
   by : (v : Verdict Taking) → taking s.kept s.area d room ≡ v → Answered v s.area out r area left
-      → kept ≡ once_taken s.kept (taken_of v) → with_taken s r area left kept ≡ delivering s v
+      → kept ≡ once_taken s.kept (v told_by taken_of) → with_taken s r area left kept ≡ delivering s v
   by (refused n) q a k = rw (a.answer, a.slots, k, append-nil)
   by (taken t) q a k =
       let ms : List (List ℕ) = t.delivered in
@@ -107,8 +107,8 @@ delivery-left s i d known room out r area left kept e k = by (taking s.kept s.ar
       )
 
 -- what the recorder asks
-pub request-left : (s : State) (room : ℕ) (v : Verdict Wish) (kept : Record) → kept ≡ once_asked s.kept (asked_of v)
-    → LeavesAsked room (asked_of v) (λ said. saying s kept said ≡ wishing s room v)
+pub request-left : (s : State) (room : ℕ) (v : Verdict Wish) (kept : Record) → kept ≡ once_asked s.kept (v told_by asked_of)
+    → LeavesAsked room (v told_by asked_of) (λ said. saying s kept said ≡ wishing s room v)
 request-left s room (refused n) kept k = rw (k, append-nil)
 request-left s room (taken nothing) kept k = rw (k, append-nil)
 request-left s room (taken wait) kept k = rw (k, append-nil)

@@ -11,6 +11,7 @@ use Rattle.wire.specs.Fields.{Bytes}
 use Rattle.wire.specs.declared.kinds.Name.{Name}
 use Rattle.wire.specs.declared.kinds.Sequence.{Sequence}
 use Rattle.blocks.specs.Blocks.{cut, messages_of}
+use Rattle.ufo_up.specs.declared.up.Placed.{Placed}
 use Rattle.ufo_up.specs.declared.up.Up.{Up}
 use Rattle.ufo_up.specs.declared.up.Up.TheVariants as up
 use Rattle.clock.specs.declared.sheet.Sheet.{Sheet}
@@ -108,21 +109,24 @@ LeavesAnswered s room first count left =
 
 -- A server that is handed a datagram reads it as a packet, then message by message, each at the place where the one before it ends,
 -- and answers each request before it reads `on`.
-abbrev pub LeavesMessage : State → ℕ → Up → (ℕ → (List (List ℕ) → Type 0) → Type 0) → (List (List ℕ) → Type 0) → Type 0
-LeavesMessage s room (up.Refused n) on left = left []
-LeavesMessage s room (up.Login user password session next) on left = on next left
-LeavesMessage s room (up.Request first count next) on left =
-    LeavesAnswered s room first count (λ answer. on next (λ answers. left (answer ++ answers)))
-LeavesMessage s room (up.Unsequenced start size next) on left = on next left
-LeavesMessage s room (up.Heartbeat next) on left = on next left
-LeavesMessage s room (up.Logout next) on left = on next left
+abbrev pub LeavesMessage : State → ℕ → Up → ((List (List ℕ) → Type 0) → Type 0) → (List (List ℕ) → Type 0) → Type 0
+LeavesMessage s room (up.Login user password session) on left = on left
+LeavesMessage s room (up.Request first count) on left =
+    LeavesAnswered s room first count (λ answer. on (λ answers. left (answer ++ answers)))
+LeavesMessage s room (up.Unsequenced start size) on left = on left
+LeavesMessage s room up.Heartbeat on left = on left
+LeavesMessage s room up.Logout on left = on left
+
+abbrev pub LeavesPlaced : State → ℕ → Verdict Placed → (ℕ → (List (List ℕ) → Type 0) → Type 0) → (List (List ℕ) → Type 0) → Type 0
+LeavesPlaced s room (refused why) on left = left []
+LeavesPlaced s room (taken placed) on left = LeavesMessage s room placed.message (on placed.next) left
 
 abbrev pub LeavesEach : State → ℕ → List ℕ → ℕ → ℕ → (List (List ℕ) → Type 0) → Type 0
 LeavesEach s room datagram zero place left = left []
 LeavesEach s room datagram (suc count) place left =
     Leaves ufo-up.read_message.Kinds.ps ufo-up.read_message.Kinds.r ufo-up.read_message.Reads.Post
     (λ _ (packet, (place', _)). (packet.now ≡ datagram) × (place' ≡ place))
-    (λ _ x _. LeavesMessage s room x (LeavesEach s room datagram count) left)
+    (λ _ x _. LeavesPlaced s room x (LeavesEach s room datagram count) left)
 
 abbrev pub LeavesServed : State → ℕ → List ℕ → Verdict ℕ → (List (List ℕ) → Type 0) → Type 0
 LeavesServed s room datagram (refused why) left = left []
