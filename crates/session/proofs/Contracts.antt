@@ -37,9 +37,9 @@ log-left : (s : State) (v : Verdict Kept) (r : Verdict Log) (left : List ℕ) �
 log-left s (refused n) r left e = rw (e.answer, e.bytes)
 log-left s (taken k) r left e = rw (e.answer, e.bytes)
 
-end-left : (s : State) (r : Verdict Log) → r ≡ (declaring s.log s.lent told_by logged_of) → with_log s r s.lent ≡ step s declares
+end-left : (s : State) (r : Verdict Log) → r ≡ logged_of (declaring s.log s.lent) → with_log s r s.lent ≡ step s declares
 end-left s r e = by (declaring s.log s.lent) refl e where
-  by : (v : Verdict Kept) → declaring s.log s.lent ≡ v → r ≡ (v told_by logged_of) → with_log s r s.lent ≡ logging s v
+  by : (v : Verdict Kept) → declaring s.log s.lent ≡ v → r ≡ logged_of v → with_log s r s.lent ≡ logging s v
   by (refused n) d q = rw q
   by (taken k) d q = rw (q, (declared s.log s.lent k d).3)
 
