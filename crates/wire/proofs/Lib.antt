@@ -1,4 +1,5 @@
 pub mod Width
+pub mod Eight
 pub mod Checks
 pub mod Numbered
 pub mod Settling

@@ -129,18 +129,6 @@ sets-append d at (x ∷ a) b =
 pub sets-after : {A : Type 0} (d : List A) (at n : ℕ) (a b : List A) → length a ≡ n → sets (sets d at a) (at + n) b ≡ sets d at (a ++ b)
 sets-after d at n a b e = rw (← e) (sets-append d at a b)
 
--- two fields put side by side are one
-pub put-add : (j k : ℕ) (d : List ℕ) (at n : ℕ) → n < 2 ^ (8 * (j + k)) → sets (sets d at (bytes_of j (n / 2 ^ (8 * k)))) (at + j)
-    (bytes_of k (n % 2 ^ (8 * k))) ≡ sets d at (bytes_of (j + k) n)
-put-add j k d at n h =
-    let m = n / 2 ^ (8 * k) in
-    rw bytes_of-add (sets-after d at j (bytes_of j m) (bytes_of k (n % 2 ^ (8 * k))) (length-bytes_of j m))
-
--- and so where each is stored by a call of its own
-pub puts : (j k : ℕ) (d mid left : List ℕ) (at n : ℕ) → n < 2 ^ (8 * (j + k)) → mid ≡ sets d at (bytes_of j (n / 2 ^ (8 * k)))
-    → left ≡ sets mid (at + j) (bytes_of k (n % 2 ^ (8 * k))) → left ≡ sets d at (bytes_of (j + k) n)
-puts j k d mid left at n h e f = f ∙ ap (λ (x : List ℕ). sets x (at + j) (bytes_of k (n % 2 ^ (8 * k)))) e ∙ put-add j k d at n h
-
 -- two bytes at a place
 pub be-two : (s : List ℕ) (at : ℕ) → be 2 (drop at s) ≡ get_or s at 0 * 256 + get_or s (at + 1) 0
 unfolding be
