@@ -1,7 +1,6 @@
 -- What an entry of the specimen book can be, and what it says, by the definitions that the desk's contracts cite.
 -- Assumes nothing.
-use Rattle.std.specs.Prelude.{ℕ, zero, suc, ◌+◌, ◌≤◌, ◌≡◌, List, [], ◌∷◌, true, false, Float, length, if◌then◌else◌}
-use Rattle.std.proofs.Math.Option.{some}
+use Rattle.std.specs.Prelude.{ℕ, zero, suc, ◌+◌, ◌≤◌, ◌≡◌, List, [], ◌∷◌, true, false, Float, Some, length, if◌then◌else◌}
 use Rattle.wire.specs.Checks.{Verdict, taken, ◌into◌}
 use Rattle.ufo.specs.Down as server
 use Rattle.ufo_up.specs.Up as client
@@ -98,7 +97,7 @@ sheet_of t = record { mean = t.mean; spread = t.spread; timed = true }
 abbrev pub Reckoned : Patience → Sheet → List Timed → Type 0
 Reckoned rule sheet [] = Unit
 Reckoned rule sheet (t ∷ ts) =
-    (timing sheet t.sample ≡ taken (sheet_of t)) × (waiting (sheet_of t) rule ≡ taken (some t.wait)) × Reckoned rule (sheet_of t) ts
+    (timing sheet t.sample ≡ taken (sheet_of t)) × (waiting (sheet_of t) rule ≡ taken (Some t.wait)) × Reckoned rule (sheet_of t) ts
 
 -- what an entry says; a story is told with any area of 32 slots
 abbrev pub Says : Entry → Type 0
