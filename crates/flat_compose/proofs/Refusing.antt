@@ -12,6 +12,8 @@ use lib.ListN.{length, take, length-append}
 use Rattle.wire.specs.Checks.{refused}
 use Rattle.wire.specs.Datagram.{limit}
 use Rattle.wire.specs.Reply.{Reply, settle}
+use Rattle.wire.specs.declared.refusal.Refusal.{Refusal}
+use Rattle.wire.specs.declared.refusal.Refusal.TheVariants.{UnknownType, Framing}
 use Rattle.wire.proofs.Tests.{by-test}
 use Rattle.wire.proofs.Width.{length-bytes_of}
 use Rattle.blocks.specs.Blocks.{frame}
@@ -31,9 +33,9 @@ module _ (out : List ℕ) (used : ℕ) (g : Begun out used) where
   abbrev sent : List ℕ → ℕ → Reply
   sent w room = settle (read_up (whole w)) (whole w) room
 
-  pub refused-behind : (w : List ℕ) (size n room : ℕ) → 2 + length w ≡ size → 0 < length w → read_message w ≡ refused n
-      → unfit_behind out used size n ≡ sent w room
-  refused-behind w size n room k h e =
+  pub refused-behind : (w : List ℕ) (size : ℕ) (why : Refusal) (room : ℕ) → 2 + length w ≡ size → 0 < length w → read_message w ≡ refused why
+      → unfit_behind out used size why ≡ sent w room
+  refused-behind w size why room k h e =
       let s = so-far-lawful out used g in
       let l = length_so_far out used g in
       rw (le-leb used (length out) g.inside, g.begun.is)
@@ -41,7 +43,7 @@ module _ (out : List ℕ) (used : ℕ) (g : Begun out used) where
       (λ p.
       let short = leb-true (used + size) limit p in
       let fits = read_behind g.begun.messages w s.all h (rw s.bytes (omega arith)) in
-      let says : read_up (whole w) ≡ refused n = rw (← s.bytes) (fits ∙ rw e) in
+      let says : read_up (whole w) ≡ refused why = rw (← s.bytes) (fits ∙ rw e) in
       rw (p, says))
       (λ p.
       let long = leb-false (used + size) limit p in
@@ -56,7 +58,7 @@ module _ (out : List ℕ) (used : ℕ) (g : Begun out used) where
         let d = ne_eqb p.kind 85 u.1.1.0 in
         let r = ne_eqb p.kind 82 u.1.1.1.0 in
         let o = ne_eqb p.kind 79 u.1.1.1.1.0 in
-        rw (l, t, d, r, o) (refused-behind (p.kind ∷ body) (3 + length body) 3 room (omega arith) (omega arith) (rw (l, t, d, r, o)))
+        rw (l, t, d, r, o) (refused-behind (p.kind ∷ body) (3 + length body) UnknownType room (omega arith) (omega arith) (rw (l, t, d, r, o)))
 
     module _ (h : 0 < length body) where
       -- a message of a type that has no body, whose block has `size` bytes without one
@@ -66,7 +68,7 @@ module _ (out : List ℕ) (used : ℕ) (g : Begun out used) where
           let w = write_message m ++ body in
           let n : 2 + length w ≡ size + length body = rw length-append (omega arith) in
           rw (ne_eqb (length body) 0 (λ z. omega arith))
-          (refused-behind w (size + length body) 4 room n (rw length-append (omega arith)) (longer-is-4 body h m f))
+          (refused-behind w (size + length body) Framing room n (rw length-append (omega arith)) (longer-is-4 body h m f))
 
       pub login-with-body-behind : p.kind ≡ 76 → length p.user ≡ 6 → length p.password ≡ 10 → length p.name ≡ 10
           → add_flat p body out used ≡ sent (write_message (login p.user p.password p.name) ++ body) room

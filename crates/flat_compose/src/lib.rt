@@ -13,27 +13,36 @@ use flat::wrote::Wrote;
 use flat_packet::Packet;
 use flat_packet::fitting::unfit;
 use ufo_compose::Message;
-use ufo_up::up::Upstream;
 use wire::datagram::LIMIT;
 use wire::kinds::{Password, Sequence};
 use wire::refusal::Refusal;
 
 // A message and a body that don't go together: what is there is read first. The block has `size` bytes without the body.
-fn unfit_behind(out: &mut [u8], used: usize, size: u16, body: &[u8], number: u8) -> Result<usize, Refusal>
-    ensures { Settled (unfit_behind out.old used (size + length body.now) number)
+fn unfit_behind(
+    out: &mut [u8],
+    used: usize,
+    size: u16,
+    body: &[u8],
+    why: Refusal,
+) -> Result<usize, Refusal>
+    ensures { Settled (unfit_behind out.old used (size + length body.now) why)
         out.old result out.new }
 {
     if out.len() < used {
         return Err(Refusal::Framing);
     }
-    match ufo_compose::read_so_far(&out[..used]) {
-        Upstream::Refused(n) => Err(n),
-        Upstream::Messages(_) => unfit(LIMIT, used + size as usize, body, number),
-    }
+    ufo_compose::read_so_far(&out[..used])?;
+    unfit(LIMIT, used + size as usize, body, why)
 }
 
 // A message that has no body.
-fn alone(message: Message, size: u16, body: &[u8], out: &mut [u8], used: usize) -> Result<usize, Refusal>
+fn alone(
+    message: Message,
+    size: u16,
+    body: &[u8],
+    out: &mut [u8],
+    used: usize,
+) -> Result<usize, Refusal>
     ensures { Settled (alone_behind out.old used size body.now
         (add_reply (message_of message body.now) out.old used)) out.old result out.new }
 {
@@ -46,23 +55,19 @@ fn alone(message: Message, size: u16, body: &[u8], out: &mut [u8], used: usize) 
 fn login_of(fields: Packet) -> Message
     ensures { IsLogin fields result }
 {
-    let user_text = fields.user;
-    let password_text = fields.password;
-    let name_text = fields.name;
     Message::Login {
-        user: user_of(&user_text),
-        password: Password(name_of(&password_text)),
-        session: name_of(&name_text),
+        user: user_of(&fields.user),
+        password: Password(name_of(&fields.password)),
+        session: name_of(&fields.name),
     }
 }
 
 fn added(fields: Packet, body: &[u8], out: &mut [u8], used: usize) -> Result<usize, Refusal>
     ensures { Settled (add_flat fields body.now out.old used) out.old result out.new }
 {
-    let kind = fields.kind;
     let first = Sequence(fields.number);
     let count = fields.count;
-    match kind {
+    match fields.kind {
         b'L' => alone(login_of(fields), 29, body, out, used),
         b'T' => alone(Message::Request { first, count }, 9, body, out, used),
         b'U' => ufo_compose::add_message(Message::Unsequenced, body, out, used),
