@@ -6,7 +6,7 @@ use Prim.Native.Nat.{ℕ, ◌+◌, ◌-◌, ◌≤◌, min}
 use mathlib.Core.Path.{◌≡◌, refl}
 use mathlib.Core.List.{List, [], ◌∷◌}
 use mathlib.Core.Logic.{◌⊎◌}
-use mathlib.Core.Option.{some}
+use Rattle.std.specs.Prelude.{Some}
 use mathlib.Core.Bool.{Bool, true}
 use seplogic.Ra.Ura.{Ura}
 use base.Logic.{SProp}
@@ -199,7 +199,7 @@ pub fillable : {s : State}
 fillable {s} r first last others e sheet rule elapsed over = filling.fillable sheet rule elapsed over s (inv r) first last others e
 
 -- Every rule that has a wait comes to that: once the wait has elapsed it is over.
-pub wait-ends : (sheet : Sheet) (rule : Patience) (wait : Float) → waiting sheet rule ≡ taken (some wait)
+pub wait-ends : (sheet : Sheet) (rule : Patience) (wait : Float) → waiting sheet rule ≡ taken (Some wait)
     → wait_over sheet rule wait ≡ taken true
 wait-ends = waits.wait-ends
 

@@ -13,7 +13,7 @@ use Rattle.wire.specs.Fields.{Bytes}
 use Rattle.blocks.specs.Blocks.{frames, end_at}
 use Rattle.blocks.proofs.Frames.{short-frames}
 use Rattle.blocks.proofs.Cutting.{cut-frames}
-use Rattle.ufo_up.specs.Up.{Message, login, request, unsequenced, heartbeat, logout, read_up, upstream_of, up_of}
+use Rattle.ufo_up.specs.Up.{Message, login, request, unsequenced, heartbeat, logout, read_up, up_of}
 use Rattle.ufo_up.proofs.UpInTurn.{InTurn, in-turn}
 use Rattle.lent_log.specs.Log.{Kept, declaring, logged_of, Entered}
 use Rattle.lent_log.specs.declared.Log.{Log}

@@ -162,7 +162,7 @@ module _ (s : State) (i : Inv s) where
 
     pub vouched-if-taken : Known s d → (room : ℕ) (t : Taking) → taking s.kept s.area d room ≡ taken t → Vouches s d
     vouched-if-taken (tells w) room t e = w
-    vouched-if-taken (greets l) room t e = not-both (taking s.kept s.area d room) 16 t (passed-by l room) e
+    vouched-if-taken (greets l) room t e = not-both (taking s.kept s.area d room) NotForRecord t (passed-by l room) e
 
     arrives-known : Known s d → (room : ℕ) → Good s (delivering s (taking s.kept s.area d room))
     arrives-known (tells w) room = arrives d w room

@@ -52,7 +52,7 @@ no-report d (rejected reason e) = rw e
 -- nothing that is reported is one
 pub reports-none : {C : Type 0} (d : List ℕ) (p : ufo.Packet) (report : Report) → LoginAnswer d → ufo.read d ≡ taken p
     → of_ufo p ≡ taken report → C
-reports-none d p report l e f = not-both (ufo.read d into of_ufo) 16 report (no-report d l) (rw e f)
+reports-none d p report l e f = not-both (ufo.read d into of_ufo) NotForRecord report (no-report d l) (rw e f)
 
 pub refuses-login : (r : Record) (area : List ℕ) (name : Name) → r.session ≡ Ufo name → hangs r ≡ true → sound r.held area ≡ true
     → (d : List ℕ) → LoginAnswer d → (room : ℕ) → taking r area d room ≡ refused NotForRecord

@@ -4,7 +4,7 @@ use mathlib.Core.Path.{◌≡◌, refl}
 use Prim.Native.Nat.{◌*◌}
 use mathlib.Core.List.{[], ◌∷◌}
 use mathlib.Core.Bool.{true, false}
-use mathlib.Core.Option.{some}
+use Rattle.std.specs.Prelude.{Some}
 use native.Mathlib.Omega.{arith}
 use lib.Dec.{T, ltb→lt, lt→ltb, lit<}
 use lib.Ieee.{Float, nan, inf, fin, up, down, round, le, lt}
@@ -47,7 +47,7 @@ lasts w p h =
     let day : T (le w (whole 86400000)) = le_trans_positive w (whole 60000) (whole 86400000) p tt tt h (unfold le in tt) in
     (is_true (within_day w) (and_i (le (whole 0) w) (le w (whole 86400000)) zero day), is_true (le w w) (cross→le w w p p (omega arith)))
 
-lasts-so : (sheet : Sheet) (rule : Patience) (w : Float) → sound sheet ≡ true → in_range rule ≡ true → wait_under sheet rule ≡ some w
+lasts-so : (sheet : Sheet) (rule : Patience) (w : Float) → sound sheet ≡ true → in_range rule ≡ true → wait_under sheet rule ≡ Some w
     → (within_day w ≡ true) × (le w w ≡ true)
 lasts-so sheet Never w s r e = impossible cc
 lasts-so sheet (Fixed v) w s r e =
@@ -70,9 +70,9 @@ lasts-so sheet (Measured floor ceiling) w s r e =
     let same : v ≡ w = cc in
     rw (← same) (lasts v p (le_trans_positive v ceiling (whole 60000) p g x (and_r (le floor v) (le v ceiling) c) k))
 
-pub wait-ends : (sheet : Sheet) (rule : Patience) (w : Float) → waiting sheet rule ≡ taken (some w) → wait_over sheet rule w ≡ taken true
+pub wait-ends : (sheet : Sheet) (rule : Patience) (w : Float) → waiting sheet rule ≡ taken (Some w) → wait_over sheet rule w ≡ taken true
 wait-ends sheet rule w e =
-    let p = all-passed ((sound sheet else Broken) ∷ (in_range rule else Range) ∷ []) (taken (wait_under sheet rule)) (some w) e in
-    let u : wait_under sheet rule ≡ some w = cc p.1 in
+    let p = all-passed ((sound sheet else Broken) ∷ (in_range rule else Range) ∷ []) (taken (wait_under sheet rule)) (Some w) e in
+    let u : wait_under sheet rule ≡ Some w = cc p.1 in
     let d = lasts-so sheet rule w p.0.0 p.0.1.0 u in
     rw (p.0.0, p.0.1.0, d.0, u, d.1)
