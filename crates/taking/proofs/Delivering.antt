@@ -43,7 +43,8 @@ let-fits held area m at out g left h = by (releasing held area m at (length out)
       → (at + g.bytes ≤ length out) × (length left ≡ length out)
   by (refused x) w h = not-both (taken g) x g h.answer refl
   by (taken ms) w h =
-      let cs : List Check = (sound held area else Broken) ∷ (at + length (frames (released held area m)) at_most length out else Room) ∷ [] in
+      let cs : List Check = (sound held area else Broken) ∷ (at + length (frames (released held area m)) at_most length out else Room) ∷
+      [] in
       let c = all-passed cs (taken (released held area m)) ms w in
       let same : released held area m ≡ ms = taken-same (released held area m) ms c.1 in
       let z : g.bytes ≡ length (frames ms) = ap (λ (x : Released). x.bytes) (taken-same g (released_of ms) h.answer) in

@@ -12,6 +12,7 @@ pub mod Numbered
 pub mod Room
 pub mod Took
 pub mod Tape
+pub mod Brought
 pub mod Trying
 pub mod Twice
 pub mod Whose

@@ -73,7 +73,8 @@ module _ (d : List ℕ) (b : Bytes d) where
   within-memx own (memx.messages session first extra ms) report e f =
       let size = (took d (memx.messages session first extra ms) e).size in
       rw (
-        ← taken-same (messages first ms) report (all-passed ((session is own else OtherSession) ∷ []) (taken (messages first ms)) report f).1,
+        ← taken-same (messages first ms) report (all-passed ((session is own else OtherSession) ∷ []) (taken (messages first ms)) report
+            f).1,
         ← carried-frames d session first extra ms e b,
         length-drop,
       ) (omega arith)

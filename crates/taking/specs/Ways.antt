@@ -6,6 +6,7 @@ use Rattle.wire.specs.declared.refusal.Refusal.TheVariants.{Contradiction}
 use Rattle.record.specs.declared.Record.{Record}
 use Rattle.reports.specs.Reports.{messages, blocks_from}
 use Rattle.taking.specs.declared.Taken.{Taken}
+use Rattle.taking.specs.declared.batch.Batch.{Batch}
 use Rattle.taking.specs.Taking.{clash, told, Taking, reporting, Answered}
 
 -- a report that delivers nothing and holds nothing; EarlyOrLate.reports-none: it is taken so
@@ -22,3 +23,7 @@ abbrev pub TakesMessages : Record → (first count : ℕ) (area datagram : List 
     → Type 0
 TakesMessages kept first count area datagram place out =
     Answered (reporting kept area (length out) (messages first (blocks_from datagram place count))) area out
+
+-- and so to the messages of a batch
+abbrev pub TakesBatch : Record → Batch → (area out : List ℕ) → Verdict Taken → (area_left left : List ℕ) → Type 0
+TakesBatch kept b area out = TakesMessages kept b.first b.count area b.datagram.now b.place out

@@ -2,58 +2,43 @@
 ghost use Rattle.std.specs.Prelude.{◌≡◌, ◌<◌, true, []};
 ghost use Rattle.held.specs.Holding.{hold_all, Held};
 ghost use Rattle.record.specs.Record.{hangs};
-ghost use Rattle.reports.specs.Reports.{Fills, blocks_from};
-ghost use Rattle.taking.specs.Ways.{TakesMessages};
+ghost use Rattle.reports.specs.Reports.{blocks_from};
+ghost use Rattle.taking.specs.Ways.{TakesBatch};
 
 use crate::Taken;
+use crate::batch::Batch;
 use crate::tell::{contradicts, tell};
 use held::holding::hold;
 use record::Record;
 use wire::refusal::Refusal;
 
 // Each message is tried at its slot; the bitmap afterwards.
-fn hold_each(
-    held: u32,
-    next: u64,
-    first: u64,
-    count: u16,
-    area: &mut [u8],
-    datagram: &[u8],
-    place: usize,
-) -> u32
-    requires { Fills datagram.now place first count }
-    ensures { Held (hold_all next (record { held = held; area = area.old })
-        first (blocks_from datagram.now place count)) result area.new }
+fn hold_each(held: u32, next: u64, batch: Batch, area: &mut [u8]) -> u32
+    ensures { Held (hold_all next (record { held = held; area = area.old }) batch.entry.first
+        (blocks_from batch.entry.datagram.now batch.entry.place batch.entry.count)) result area.new }
 {
     let mut kept = held;
-    let mut at = place;
-    for k in 0..count {
-        let block = blocks::next(datagram, at).unwrap();
-        let message = &datagram[block.start..block.next];
-        kept = hold(kept, next, first + k as u64, message, area);
+    let mut at = batch.place;
+    for k in 0..batch.count {
+        let block = blocks::next(batch.datagram, at).unwrap();
+        let message = &batch.datagram[block.start..block.next];
+        kept = hold(kept, next, batch.first + k as u64, message, area);
         at = block.next;
     }
     kept
 }
 
 // Nothing goes out, so there is no output.
-pub(crate) fn hold_early(
-    kept: Record,
-    first: u64,
-    count: u16,
-    area: &mut [u8],
-    datagram: &[u8],
-    place: usize,
-) -> Result<Taken, Refusal>
-    requires { (hangs kept ≡ true) × Fills datagram.now place first count × (kept.next.0 < first) }
-    ensures { TakesMessages kept first count area.old datagram.now place []
+pub(crate) fn hold_early(kept: Record, batch: Batch, area: &mut [u8]) -> Result<Taken, Refusal>
+    requires { (hangs kept ≡ true) × (kept.next.0 < batch.first) }
+    ensures { TakesBatch kept batch.entry area.old []
         result area.new [] }
 {
-    let past = first + count as u64;
+    let past = batch.past();
     if contradicts(kept, past - 1, false) {
         return Err(Refusal::Contradiction);
     }
-    let held = hold_each(kept.held, kept.next.0, first, count, area, datagram, place);
+    let held = hold_each(kept.held, kept.next.0, batch, area);
     Ok(Taken {
         bytes: 0,
         messages: 0,

@@ -1,6 +1,7 @@
 // Taking a datagram into a session record.
 #![tactic(auto)]
 
+mod batch;
 mod deliver;
 mod early;
 mod tell;
@@ -9,10 +10,10 @@ ghost use Rattle.std.specs.Prelude.{◌≡◌, [], true, ◌+◌, ◌≤◌, ◌
 ghost use Rattle.wire.specs.Checks.{◌told_by◌};
 ghost use Rattle.held.specs.Hanging.{sound};
 ghost use Rattle.record.specs.Record.{hangs};
-ghost use Rattle.reports.specs.Reports.{Fills};
 ghost use Rattle.taking.specs.Taking.{taking, taken_of, Answered};
-ghost use Rattle.taking.specs.Ways.{passing, TakesMessages};
+ghost use Rattle.taking.specs.Ways.{passing, TakesBatch};
 
+use crate::batch::Batch;
 use crate::deliver::{deliver, deliver_own};
 use crate::early::hold_early;
 use crate::tell::{contradicts, tell};
@@ -46,25 +47,16 @@ fn pass(kept: Record, top: u64, end: bool) -> Result<Taken, Refusal>
 }
 
 // The record's next message is among the packet's, and nothing is held: the blocks from there on are delivered.
-fn hand_over_own(
-    kept: Record,
-    first: u64,
-    count: u16,
-    area: &[u8],
-    datagram: &[u8],
-    place: usize,
-    out: &mut [u8],
-) -> Result<Taken, Refusal>
-    requires { (kept.held ≡ 0) × Fills datagram.now place first count
-        × (first ≤ kept.next.0) × (kept.next.0 < first + count) }
-    ensures { TakesMessages kept first count area.now datagram.now place out.old
+fn hand_over_own(kept: Record, batch: Batch, area: &[u8], out: &mut [u8]) -> Result<Taken, Refusal>
+    requires { (kept.held ≡ 0) × (batch.first ≤ kept.next.0) × (kept.next.0 < batch.first + batch.count) }
+    ensures { TakesBatch kept batch.entry area.now out.old
         result area.now out.new }
 {
-    let past = first + count as u64;
+    let past = batch.past();
     if contradicts(kept, past - 1, false) {
         return Err(Refusal::Contradiction);
     }
-    let bytes = deliver_own(datagram, place, kept.next.0 - first, out)?;
+    let bytes = deliver_own(batch, kept.next.0 - batch.first, out)?;
     Ok(Taken {
         bytes,
         messages: (past - kept.next.0) as u32,
@@ -73,26 +65,18 @@ fn hand_over_own(
 }
 
 // The same where messages are held: those that are next then go out behind the packet's.
-fn hand_over(
-    kept: Record,
-    first: u64,
-    count: u16,
-    area: &[u8],
-    datagram: &[u8],
-    place: usize,
-    out: &mut [u8],
-) -> Result<Taken, Refusal>
-    requires { (hangs kept ≡ true) × (sound kept.held area.now ≡ true) × Fills datagram.now place first count
-        × (first ≤ kept.next.0) × (kept.next.0 < first + count) }
-    ensures { TakesMessages kept first count area.now datagram.now place out.old
+fn hand_over(kept: Record, batch: Batch, area: &[u8], out: &mut [u8]) -> Result<Taken, Refusal>
+    requires { (hangs kept ≡ true) × (sound kept.held area.now ≡ true)
+        × (batch.first ≤ kept.next.0) × (kept.next.0 < batch.first + batch.count) }
+    ensures { TakesBatch kept batch.entry area.now out.old
         result area.now out.new }
 {
-    let past = first + count as u64;
+    let past = batch.past();
     if contradicts(kept, past - 1, false) {
         return Err(Refusal::Contradiction);
     }
     let held = free_from(kept.held, kept.next.0, past - kept.next.0);
-    let given = deliver(datagram, place, kept.next.0 - first, held, past, area, out)?;
+    let given = deliver(batch, kept.next.0 - batch.first, held, area, out)?;
     let reached = past + given.messages as u64;
     let free = free_from(held, past, given.messages as u64);
     Ok(Taken {
@@ -102,52 +86,28 @@ fn hand_over(
     })
 }
 
-// Messages where some are held, or come early.
-fn take_held(
-    kept: Record,
-    first: u64,
-    count: u16,
-    area: &mut [u8],
-    datagram: &[u8],
-    place: usize,
-    out: &mut [u8],
-) -> Result<Taken, Refusal>
-    requires { (hangs kept ≡ true) × (sound kept.held area.old ≡ true) × Fills datagram.now place first count }
-    ensures { TakesMessages kept first count area.old datagram.now place out.old
-        result area.new out.new }
-{
-    let past = first + count as u64;
-    if kept.next.0 < first {
-        return hold_early(kept, first, count, area, datagram, place);
-    }
-    if kept.next.0 < past {
-        return hand_over(kept, first, count, area, datagram, place, out);
-    }
-    pass(kept, past - 1, false)
-}
-
-// Messages whose blocks fill the datagram from a place to its end. Most come in turn, with nothing held.
+// Messages that come early are held; of any others those that are new go out.
 fn take_messages(
     kept: Record,
-    first: u64,
-    count: u16,
+    batch: Batch,
     area: &mut [u8],
-    datagram: &[u8],
-    place: usize,
     out: &mut [u8],
 ) -> Result<Taken, Refusal>
-    requires { (hangs kept ≡ true) × (sound kept.held area.old ≡ true) × Fills datagram.now place first count }
-    ensures { TakesMessages kept first count area.old datagram.now place out.old
+    requires { (hangs kept ≡ true) × (sound kept.held area.old ≡ true) }
+    ensures { TakesBatch kept batch.entry area.old out.old
         result area.new out.new }
 {
-    let past = first + count as u64;
-    if kept.held == 0 && first <= kept.next.0 {
-        if kept.next.0 < past {
-            return hand_over_own(kept, first, count, area, datagram, place, out);
-        }
+    let past = batch.past();
+    if kept.next.0 < batch.first {
+        return hold_early(kept, batch, area);
+    }
+    if past <= kept.next.0 {
         return pass(kept, past - 1, false);
     }
-    take_held(kept, first, count, area, datagram, place, out)
+    if kept.held == 0 {
+        return hand_over_own(kept, batch, area, out);
+    }
+    hand_over(kept, batch, area, out)
 }
 
 // The datagram is gone over three times at most: read, skipped to the next message, copied from there.
@@ -169,7 +129,15 @@ pub fn take(
             first,
             count,
             place,
-        } => take_messages(kept, first.0, count, area, datagram, place, out),
+        } => {
+            let batch = Batch {
+                first: first.0,
+                count,
+                datagram,
+                place,
+            };
+            take_messages(kept, batch, area, out)
+        }
         Reported::News { highest } => pass(kept, highest.0, false),
         Reported::End { total } => pass(kept, total.0, true),
     }

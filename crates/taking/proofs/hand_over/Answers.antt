@@ -3,7 +3,6 @@ use Prim.Native.Nat.{◌+◌, ◌-◌, ◌^◌, ◌≤◌, ◌<◌, max}
 use mathlib.Core.Path.{◌≡◌, sym, ◌∙◌}
 use native.Mathlib.Omega.{arith}
 use lib.ListN.{length}
-use Rattle.wire.specs.Fields.{Bytes}
 use Rattle.record.specs.Record.{highest}
 use Rattle.record.specs.declared.Session.{Session}
 use Rattle.record.specs.declared.Session.TheVariants.{Ufo, Memx}
@@ -13,6 +12,7 @@ use Rattle.wire.specs.Checks.{taken}
 use Rattle.wire.proofs.Checks.{passed-on}
 use Rattle.held.proofs.Hangs.{freed-sound}
 use Rattle.taking.specs.Delivering.{Handed}
+use Rattle.taking.proofs.Brought.{brings}
 use Rattle.taking.proofs.HandingOver.{hands-others, room, tells-clash, tells, released-few}
 use Rattle.taking.proofs.hand_over.Goals.{After-deliver}
 use Rattle.taking.proofs.hand_over.Goals as goal
@@ -23,28 +23,28 @@ highest-fits (Ufo name) = omega arith
 highest-fits (Memx id) = omega arith
 
 given_so : (c : After-deliver) → let a = c.args in
-    Handed (room a.kept a.area.now a.out.now a.datagram.now a.place a.first a.count c.requires.2)
+    Handed (room a.kept a.area.now a.out.now a.batch.datagram.now a.batch.place a.batch.first a.batch.count (brings a.batch))
     a.out.now c.deliver.result c.deliver.new.out
 given_so c =
     let a = c.args in
-    let bytes : Bytes a.datagram.now = λ i. (c.type_inv.datagram i).fits in
-    let sound = freed-sound a.kept.held a.area.now (a.first + a.count - a.kept.next.0) a.kept.next.0 c.requires.1 in
-    rw (hands-others a.datagram.now bytes a.place a.first a.count c.requires.2 (a.kept.next.0 - a.first) _ a.area.now
-    (a.first + a.count) (length a.out.now) (omega arith) sound) at
-    (rw c.free_from-held.ensures at c.deliver.ensures)
+    let sound = freed-sound a.kept.held a.area.now (a.batch.first + a.batch.count - a.kept.next.0) a.kept.next.0 c.requires.1 in
+    rw (hands-others a.batch.datagram.now a.batch.bytes a.batch.place a.batch.first a.batch.count (brings a.batch)
+    (a.kept.next.0 - a.batch.first) _ a.area.now (a.batch.first + a.batch.count) (length a.out.now) (omega arith) sound) at
+    (rw (c.free_from-held.ensures, c.past-past.ensures) at c.deliver.ensures)
 
 reaches : (c : After-deliver) (g : Released) → c.deliver.result ≡ taken g → let a = c.args in
-    (g.messages ≤ 31) × (a.first + a.count + g.messages ≤ max a.kept.top.0 (a.first + a.count - 1) + 1)
+    (g.messages ≤ 31) × (a.batch.first + a.batch.count + g.messages ≤ max a.kept.top.0 (a.batch.first + a.batch.count - 1) + 1)
 reaches c g e =
     let a = c.args in
-    released-few a.kept a.area.now a.out.now a.datagram.now a.place a.first a.count c.requires.2 c.requires.0 c.requires.3 c.requires.4
+    released-few a.kept a.area.now a.out.now a.batch.datagram.now a.batch.place a.batch.first a.batch.count (brings a.batch) c.requires.0
+    c.requires.2 c.requires.3
     g _ (rw e at (given_so c))
 
 pub returns-then-contradicts : goal.returns-then-contradicts
 returns-then-contradicts c =
     let a = c.args in
-    tells-clash a.kept a.area.now a.out.now a.datagram.now a.place a.first a.count c.requires.2
-    (sym c.contradicts.ensures ∙ c.if-contradicts.true)
+    tells-clash a.kept a.area.now a.out.now a.batch.datagram.now a.batch.place a.batch.first a.batch.count (brings a.batch)
+    (sym (rw c.past-past.ensures at c.contradicts.ensures) ∙ c.if-contradicts.true)
 
 pub overflow_add-reached : goal.overflow_add-reached
 overflow_add-reached c =
@@ -56,20 +56,22 @@ overflow_add-reached c =
 pub overflow_cast-result : goal.overflow_cast-result
 overflow_cast-result c =
     let f = reaches (goal.at.overflow_cast-result c).After-deliver _ c.in_ok-given.was in
-    omega (arith, f.0, c.requires.3, c.ranges.count.fits)
+    omega (arith, f.0, c.requires.2)
 
 pub returns-in_err-given : goal.returns-in_err-given
 returns-in_err-given c =
     let a = c.args in
     rw (passed-on c.from_residual.result c.from_residual.ensures.1)
-    (tells a.kept a.area.now a.out.now a.datagram.now a.place a.first a.count c.requires.2 c.requires.3 c.requires.4
-    (sym c.contradicts.ensures ∙ c.if-contradicts.false) _ _
+    (tells a.kept a.area.now a.out.now a.batch.datagram.now a.batch.place a.batch.first a.batch.count (brings a.batch) c.requires.2
+    c.requires.3
+    (sym (rw c.past-past.ensures at c.contradicts.ensures) ∙ c.if-contradicts.false) _ _
     (rw c.in_err-given.was at (given_so (goal.at.returns-in_err-given c).After-deliver)))
 
 pub returns : goal.returns
 returns c =
     let a = c.args in
-    rw (c.tell.ensures, c.free_from-free.ensures, c.free_from-held.ensures)
-    (tells a.kept a.area.now a.out.now a.datagram.now a.place a.first a.count c.requires.2 c.requires.3 c.requires.4
-    (sym c.contradicts.ensures ∙ c.if-contradicts.false) _ _
+    rw (c.tell.ensures, c.free_from-free.ensures, c.free_from-held.ensures, c.past-past.ensures)
+    (tells a.kept a.area.now a.out.now a.batch.datagram.now a.batch.place a.batch.first a.batch.count (brings a.batch) c.requires.2
+    c.requires.3
+    (sym (rw c.past-past.ensures at c.contradicts.ensures) ∙ c.if-contradicts.false) _ _
     (rw c.in_ok-given.was at (given_so (goal.at.returns c).After-deliver)))

@@ -39,15 +39,16 @@ returns-then-not-is_well_kept c =
           inr (sym w.if-not-is_well_kept.ensures, sym w.if-not-is_whole.ensures)
     ])
 
-pub take_messages-requires : goal.take_messages-requires
-take_messages-requires c =
+pub invariant_of-batch : goal.invariant_of-batch
+invariant_of-batch c =
     let a = c.args in
-    let heard = (goal.at.take_messages-requires c).After-report_of in
-    let m = reported-so _ _ _ (rw c.in-Messages.is at (told (goal.at.take_messages-requires c).In_ok-report)) in (
-      (hang heard).0,
-      (hang heard).1,
-      fills-so a.kept a.area.now a.datagram.now a.out.now (hang heard).0 (hang heard).1 (bytes heard) _ _ _ m,
-    )
+    let heard = (goal.at.invariant_of-batch c).After-report_of in
+    let m = reported-so _ _ _ (rw c.in-Messages.is at (told (goal.at.invariant_of-batch c).In_ok-report)) in
+    let f = fills-so a.kept a.area.now a.datagram.now a.out.now (hang heard).0 (hang heard).1 (bytes heard) _ _ _ m in
+    record { bytes = bytes heard; filled = f.blocks; some = f.some; bound = f.bound }
+
+pub take_messages-requires : goal.take_messages-requires
+take_messages-requires c = hang (goal.at.take_messages-requires c).After-report_of
 
 pub returns-in_err-report : goal.returns-in_err-report
 returns-in_err-report c =

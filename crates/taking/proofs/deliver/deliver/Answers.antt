@@ -13,20 +13,21 @@ use Rattle.taking.proofs.deliver.deliver.Goals as goal
 
 -- the place that skipping reached
 place-so : (c : In_ok-from) → let a = c.args in
-    (place_after a.k a.datagram.now a.place ≡ taken c.in_ok-from.from) × (c.in_ok-from.from ≤ length a.datagram.now)
+    (place_after a.k a.batch.datagram.now a.batch.place ≡ taken c.in_ok-from.from) × (c.in_ok-from.from ≤ length a.batch.datagram.now)
 place-so c =
     let a = c.args in
     let e = sym c.skip.ensures ∙ c.in_ok-from.was in
-    (e, place_inside a.k a.datagram.now a.place c.in_ok-from.from e)
+    (e, place_inside a.k a.batch.datagram.now a.batch.place c.in_ok-from.from e)
 
 -- what was let go fits behind the packet's own
 fits-so : (c : In_ok-more) → let a = c.args in
-    let own = length a.datagram.now - c.in_ok-from.from in
+    let own = length a.batch.datagram.now - c.in_ok-from.from in
     (own + c.in_ok-more.more.bytes ≤ length a.out.now) × (length c.release.new.out ≡ length a.out.now)
 fits-so c =
     let a = c.args in
-    let own = length a.datagram.now - c.in_ok-from.from in
-    let-fits a.held a.area.now a.number own a.out.now c.in_ok-more.more _ (rw c.in_ok-more.was at c.release.ensures)
+    let own = length a.batch.datagram.now - c.in_ok-from.from in
+    let-fits a.held a.area.now (a.batch.first + a.batch.count) own a.out.now c.in_ok-more.more _ (rw (c.in_ok-more.was, c.past.ensures) at
+    c.release.ensures)
 
 pub overflow_sub-own : goal.overflow_sub-own
 overflow_sub-own c = (place-so (goal.at.overflow_sub-own c).In_ok-from).1
@@ -35,15 +36,17 @@ pub returns-in_err-from : goal.returns-in_err-from
 returns-in_err-from c =
     let a = c.args in
     rw (passed-on c.from_residual.result c.from_residual.ensures.1)
-    (hands_none a.k a.datagram.now a.place a.held a.area.now a.number a.out.now _ (sym c.skip.ensures ∙ c.in_err-from.was))
+    (hands_none a.k a.batch.datagram.now a.batch.place a.held a.area.now (a.batch.first + a.batch.count) a.out.now _ (sym c.skip.ensures ∙
+    c.in_err-from.was))
 
 pub returns-in_err-more : goal.returns-in_err-more
 returns-in_err-more c =
     let a = c.args in
     let r = c.from_residual-in_err-more in
     rw (passed-on r.result r.ensures.1)
-    (hands-back a.k a.datagram.now a.place a.held a.area.now a.number a.out.now _ (place-so (goal.at.returns-in_err-more c).In_ok-from).0
-    _ _ (rw c.in_err-more.was at c.release.ensures))
+    (hands-back a.k a.batch.datagram.now a.batch.place a.held a.area.now (a.batch.first + a.batch.count) a.out.now _ (place-so
+    (goal.at.returns-in_err-more c).In_ok-from).0
+    _ _ (rw (c.in_err-more.was, c.past.ensures) at c.release.ensures))
 
 pub copy-requires : goal.copy-requires
 copy-requires c =
@@ -60,5 +63,6 @@ pub returns : goal.returns
 returns c =
     let a = c.args in
     let at = goal.at.returns c in
-    hands-over a.k a.datagram.now a.place a.held a.area.now a.number a.out.now _ (place-so at.In_ok-from).0 _ _ _
-    (rw c.in_ok-more.was at c.release.ensures) c.copy.ensures
+    hands-over a.k a.batch.datagram.now a.batch.place a.held a.area.now (a.batch.first + a.batch.count) a.out.now _ (place-so
+    at.In_ok-from).0 _ _ _
+    (rw (c.in_ok-more.was, c.past.ensures) at c.release.ensures) c.copy.ensures

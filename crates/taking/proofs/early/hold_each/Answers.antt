@@ -17,26 +17,27 @@ left n k h = omega arith
 
 -- in a turn there is one to try,
 tries : (c : After-next) → let a = c.args in let l = c.loop-k in
-    Tried a.datagram.now a.next (record { held = l.kept; area = l.area }) (a.first + l.k) l.at (a.count - l.k)
+    Tried a.batch.datagram.now a.next (record { held = l.kept; area = l.area }) (a.batch.first + l.k) l.at (a.batch.count - l.k)
 tries c =
     let a = c.args in
     let l = c.loop-k in
     let some = c.loop-k-test.true in
-    tried a.datagram.now a.next (record { held = l.kept; area = l.area }) (a.first + l.k) l.at (a.count - l.k) (omega arith) l.invariant.2
+    tried a.batch.datagram.now a.next (record { held = l.kept; area = l.area }) (a.batch.first + l.k) l.at (a.batch.count - l.k) (omega
+    arith) l.invariant.2
 
 -- and it was found
-found : (c : After-unwrap-block) → Found c.args.datagram.now c.loop-k.at c.unwrap-block.result
+found : (c : After-unwrap-block) → Found c.args.batch.datagram.now c.loop-k.at c.unwrap-block.result
 found c = finds _ _ _ (sym c.next.ensures ∙ c.unwrap-block.ensures)
 
 pub loop-k-init : goal.loop-k-init
 loop-k-init c =
     let a = c.args in
-    (omega arith, refl, rw (sub-zero a.count) c.requires.blocks, rw (sub-zero a.count, add-zero a.first))
+    (omega arith, refl, rw (sub-zero a.batch.count) a.batch.filled, rw (sub-zero a.batch.count, add-zero a.batch.first))
 
 pub unwrap-block-requires : goal.unwrap-block-requires
 unwrap-block-requires c =
     let u = tries c in
-    rw (c.next.ensures, block-fits c.args.datagram.now c.loop-k.at _ _ refl refl u.inside)
+    rw (c.next.ensures, block-fits c.args.batch.datagram.now c.loop-k.at _ _ refl refl u.inside)
 
 pub slice_bounds-message-count : goal.slice_bounds-message-count
 slice_bounds-message-count c = let f = found (goal.at.slice_bounds-message-count c).After-unwrap-block in omega arith
@@ -55,12 +56,12 @@ loop-k-preserved c =
     let h : Holding = record { held = l.kept; area = l.area } in
     let f = found at.After-unwrap-block in
     let u = tries at.After-next in
-    let next : a.first + (l.k + 1) ≡ a.first + l.k + 1 = omega arith in (
+    let next : a.batch.first + (l.k + 1) ≡ a.batch.first + l.k + 1 = omega arith in (
       omega arith,
-      ap length c.hold-kept.ensures.bytes ∙ one-long a.next h (a.first + l.k) _ ∙ l.invariant.1,
-      rw (f.ends, left a.count l.k c.loop-k-test.true) u.others,
+      ap length c.hold-kept.ensures.bytes ∙ one-long a.next h (a.batch.first + l.k) _ ∙ l.invariant.1,
+      rw (f.ends, left a.batch.count l.k c.loop-k-test.true) u.others,
       l.invariant.3 ∙ u.goes_on
-          ∙ rw (c.hold-kept.ensures.bitmap, c.hold-kept.ensures.bytes, f.same, f.ends, next, left a.count l.k c.loop-k-test.true),
+          ∙ rw (c.hold-kept.ensures.bitmap, c.hold-kept.ensures.bytes, f.same, f.ends, next, left a.batch.count l.k c.loop-k-test.true),
     )
 
 pub returns : goal.returns
@@ -68,5 +69,6 @@ returns c =
     let a = c.args in
     let l = c.loop-k in
     let h : Holding = record { held = l.kept; area = l.area } in
-    rw (l.invariant.3 ∙ none_tried a.datagram.now a.next h (a.first + l.k) l.at (a.count - l.k) (omega arith) l.invariant.2)
+    rw (l.invariant.3 ∙ none_tried a.batch.datagram.now a.next h (a.batch.first + l.k) l.at (a.batch.count - l.k) (omega arith)
+    l.invariant.2)
     (record { bitmap = refl; bytes = refl })

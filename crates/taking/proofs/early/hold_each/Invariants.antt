@@ -9,6 +9,8 @@ use Rattle.taking.proofs.early.hold_each.Given as goal
 
 abbrev pub invariant-loop-k : goal.invariant-loop-k
 invariant-loop-k l =
-    (l.k ≤ l.count) × (length l.area ≡ length l.initial.area) × (fills l.datagram l.at (l.count - l.k) ≡ true)
-    × (hold_all l.next (record { held = l.held; area = l.initial.area }) l.first (blocks_from l.datagram l.place l.count)
-    ≡ hold_all l.next (record { held = l.kept; area = l.area }) (l.first + l.k) (blocks_from l.datagram l.at (l.count - l.k)))
+    let b = l.batch in
+    let d = b.datagram.now in
+    (l.k ≤ b.count) × (length l.area ≡ length l.initial.area) × (fills d l.at (b.count - l.k) ≡ true)
+    × (hold_all l.next (record { held = l.held; area = l.initial.area }) b.first (blocks_from d b.place b.count)
+    ≡ hold_all l.next (record { held = l.kept; area = l.area }) (b.first + l.k) (blocks_from d l.at (b.count - l.k)))

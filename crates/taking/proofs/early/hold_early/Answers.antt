@@ -1,17 +1,19 @@
 -- `hold_early` meets its contract: 12; else the messages are tried one by one, and the record notes what is held.
 use mathlib.Core.Path.{sym, ◌∙◌}
+use Rattle.taking.proofs.Brought.{brings}
 use Rattle.taking.proofs.Trying.{early-clash, early-kept}
 use Rattle.taking.proofs.early.hold_early.Goals as goal
 
 pub returns-then-contradicts : goal.returns-then-contradicts
 returns-then-contradicts c =
     let a = c.args in
-    early-clash a.kept a.area.now a.datagram.now a.place a.first a.count c.requires.1 c.requires.0 c.requires.2
-    (sym c.contradicts.ensures ∙ c.if-contradicts.true)
+    early-clash a.kept a.area.now a.batch.datagram.now a.batch.place a.batch.first a.batch.count (brings a.batch) c.requires.0 c.requires.1
+    (sym (rw c.past-past.ensures at c.contradicts.ensures) ∙ c.if-contradicts.true)
 
 pub returns : goal.returns
 returns c =
     let a = c.args in
-    rw c.tell.ensures
-    (early-kept a.kept a.area.now a.datagram.now a.place a.first a.count c.requires.1 c.requires.0 c.requires.2 _ _
-    (sym c.contradicts.ensures ∙ c.if-contradicts.false) c.hold_each-held.ensures)
+    rw (c.tell.ensures, c.past-past.ensures)
+    (early-kept a.kept a.area.now a.batch.datagram.now a.batch.place a.batch.first a.batch.count (brings a.batch) c.requires.0
+    c.requires.1 _ _
+    (sym (rw c.past-past.ensures at c.contradicts.ensures) ∙ c.if-contradicts.false) c.hold_each-held.ensures)
