@@ -11,5 +11,5 @@ pub fn is_flag(byte: u8) -> bool
 pub fn byte_of(yes: bool) -> u8
     ensures { result ≡ byte_of yes }
 {
-    if yes { 1 } else { 0 }
+    u8::from(yes)
 }

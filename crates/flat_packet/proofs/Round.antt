@@ -10,7 +10,7 @@ use native.Mathlib.Nat.{add-sub_cancel_left}
 use native.Mathlib.Omega.{arith}
 use borrow.Author.Tests.{ne_eqb, eqb-true, eqb-false}
 use lib.ListN.{length, get_or, take, drop}
-use lib.Seq.{take_all, take-length}
+use lib.Seq.{take-length}
 use Rattle.wire.specs.Fields.{Bytes}
 use Rattle.wire.specs.Checks.{◌is◌, ◌at_most◌, Check, checked, Passed, Verdict, refused, taken}
 use Rattle.wire.specs.Reply.{Reply, within, settle}
@@ -24,7 +24,7 @@ use Rattle.wire.proofs.Width.{bytes-cons}
 use Rattle.text.specs.Text.{text_then_spaces, spaces_then_text}
 use Rattle.text.proofs.Textual.{padded-left, text-bytes}
 use Rattle.names.specs.Names.{name_bytes, name_of, user_bytes, user_of}
-use Rattle.names.proofs.Packing.{name-written, user-written}
+use Rattle.names.proofs.Packing.{name-again, user-again}
 use Rattle.flat_packet.specs.declared.Packet.{Packet}
 use Rattle.flat_packet.specs.declared.Read.{Read}
 use Rattle.flat_packet.specs.Packets.{nothing, no_packet, the_packet, counted, broadcast}
@@ -80,10 +80,10 @@ padded-left-text n s f = (f.0, padded-left Bytes (λ i. omega arith) (λ b t low
 
 -- packed and laid out again
 pub same_name : (s : List ℕ) → Text 10 s → name_bytes (name_of s) ≡ s
-same_name s t = name-written s t.1 (omega (arith, t.0)) ∙ take_all 10 s (omega (arith, t.0))
+same_name s t = name-again s t.1 t.0
 
 pub same-user : (s : List ℕ) → Text 6 s → user_bytes (user_of s) ≡ s
-same-user s t = user-written s t.1 (omega (arith, t.0)) ∙ take_all 6 s (omega (arith, t.0))
+same-user s t = user-again s t.1 t.0
 
 -- the fields as C passes them, by their types
 pub record Flat (p : Packet) : Type 0 where

@@ -5,7 +5,7 @@ use mathlib.Core.Path.{◌≡◌, ap, ◌∙◌}
 use mathlib.Core.List.{List, ◌++◌, append_assoc}
 use native.Mathlib.Omega.{arith}
 use lib.ListN.{length, take, drop, length-drop, length-append}
-use lib.Seq.{drop_at, take-add, sets}
+use lib.Seq.{drop_at, take-add, take_all, sets}
 use Rattle.wire.specs.Fields.{be, bytes_of, Bytes}
 use Rattle.names.specs.Names.{name_bytes, name_of, user_bytes, user_of}
 use Rattle.wire.specs.declared.kinds.Name.{Name}
@@ -46,6 +46,10 @@ name-read n t h = let p = pair_read 2 8 n.0 n.1 t h.0 h.1 in rw (p.0, p.1)
 pub name-written : (s : List ℕ) → Bytes s → 10 ≤ length s → name_bytes (name_of s) ≡ take 10 s
 name-written s b h = pair-written 2 8 s b h
 
+-- so where the bytes are no more than these
+pub name-again : (s : List ℕ) → Bytes s → length s ≡ 10 → name_bytes (name_of s) ≡ s
+name-again s b e = name-written s b (omega arith) ∙ take_all 10 s (omega arith)
+
 pub length-name_bytes : (n : Name) → length (name_bytes n) ≡ 10
 length-name_bytes n = simp (length-append, length-bytes_of)
 
@@ -57,6 +61,9 @@ user-read u t h = let p = pair_read 2 4 u.0 u.1 t h.0 h.1 in rw (p.0, p.1)
 
 pub user-written : (s : List ℕ) → Bytes s → 6 ≤ length s → user_bytes (user_of s) ≡ take 6 s
 user-written s b h = pair-written 2 4 s b h
+
+pub user-again : (s : List ℕ) → Bytes s → length s ≡ 6 → user_bytes (user_of s) ≡ s
+user-again s b e = user-written s b (omega arith) ∙ take_all 6 s (omega arith)
 
 pub length-user_bytes : (u : User) → length (user_bytes u) ≡ 6
 length-user_bytes u = simp (length-append, length-bytes_of)
