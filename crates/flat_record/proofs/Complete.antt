@@ -2,7 +2,7 @@
 -- Assumes nothing.
 use mathlib.Core.Path.{◌≡◌, refl}
 use mathlib.Core.Logic.{◌↔◌}
-use Rattle.wire.specs.Checks.{Verdict, refused, taken, ◌into◌}
+use Rattle.wire.specs.Checks.{Verdict, refused, taken, ◌into◌, ◌told_by◌}
 use Rattle.wire.proofs.Checks.{went}
 use Rattle.wire.proofs.Tests.{impossible}
 use Rattle.record.specs.Standing.{State, complete, ongoing, missing, standing, standing_of}
@@ -10,7 +10,7 @@ use Rattle.record.specs.declared.Record.{Record}
 use Rattle.flat_record.specs.Keeping.{known_record, flat_standing, standing_answer}
 use Rattle.flat_record.specs.declared.keeping.FlatRecord.{FlatRecord}
 
-says_so : (v : Verdict State) → (flat_standing (standing_of v)).complete ≡ 1 → v ≡ taken complete
+says_so : (v : Verdict State) → (flat_standing (v told_by standing_of)).complete ≡ 1 → v ≡ taken complete
 says_so (refused n) e = impossible e
 says_so (taken complete) e = refl
 says_so (taken ongoing) e = impossible e

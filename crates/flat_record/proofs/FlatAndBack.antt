@@ -56,7 +56,7 @@ opened-memx-again session = refl
 pub taken-again : (given : FlatRecord) (r : Record) (area d : List ℕ) (room : ℕ) (t : Taking)
     → known_record given ≡ taken r
     → taking r area d room ≡ taken t
-    → known_record (flat_taken given (taken_of (taken t))).after ≡ taken t.after
+    → known_record (flat_taken given (taken (taken_of t))).after ≡ taken t.after
 taken-again given r area d room t e f =
     let k = known given r e in
     record-again given t.after k.0 (rw ((never-falls r area d room t f).session, ← k.1))
@@ -65,7 +65,7 @@ taken-again given r area d room t e f =
 pub asked-again : (given : FlatRecord) (r : Record) (s : Sheet) (p : Patience) (elapsed : Float) (after : Record) (first count : ℕ)
     → known_record given ≡ taken r
     → asking r s p elapsed ≡ taken (request first count after)
-    → known_record (flat_asked given (asked_of (taken (request first count after)))).after ≡ taken after
+    → known_record (flat_asked given (taken (asked_of (request first count after)))).after ≡ taken after
 asked-again given r s p elapsed after first count e f =
     let k = known given r e in
     record-again given after k.0 (rw ((requests r s p elapsed first count after f).changes, ← k.1))

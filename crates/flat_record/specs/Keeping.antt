@@ -1,21 +1,20 @@
 -- Session records: what is taken, and how they stand.
 -- Assumes nothing.
-use Rattle.std.specs.Prelude.{ℕ, ◌≡◌, Bool, ◌&&◌, ◌||◌, List, [], ◌∷◌, if◌then◌else◌}
-use Rattle.wire.specs.Checks.{◌is◌, Verdict, taken, ◌else◌, checked, ◌into◌}
+use Rattle.std.specs.Prelude.{ℕ, ◌≡◌, Option, None, Some, Bool, ◌&&◌, ◌||◌, List, [], ◌∷◌, if◌then◌else◌}
+use Rattle.wire.specs.Checks.{◌is◌, Verdict, refused, taken, ◌else◌, checked, ◌into◌, ◌told_by◌}
+use Rattle.wire.specs.Refusals.{number_of}
 use Rattle.names.specs.Names.{name_of}
 use Rattle.wire.specs.Reply.{left_of}
 use Rattle.wire.specs.declared.refusal.Refusal.TheVariants.{Broken}
-use Rattle.record.specs.Standing.{standing, standing_of, range_at, range_of}
+use Rattle.record.specs.Standing.{standing, standing_of, range_at}
 use Rattle.taking.specs.Taking.{Taking, taking, taken_of, blocks_of, area_of}
 use Rattle.record.specs.declared.Session.{Session}
 use Rattle.record.specs.declared.Session.TheVariants.{Ufo, Memx}
 use Rattle.record.specs.declared.Record.{Record}
 use Rattle.taking.specs.declared.Taken.{Taken}
-use Rattle.taking.specs.declared.Taken.TheVariants as takes
 use Rattle.record.specs.declared.standing.Standing.{Standing}
 use Rattle.record.specs.declared.standing.Standing.TheVariants as stands
-use Rattle.record.specs.declared.standing.MissingRange.{MissingRange}
-use Rattle.record.specs.declared.standing.MissingRange.TheVariants as gives
+use Rattle.missing.specs.declared.Range.{Range}
 use Rattle.flat.specs.Flag.{is_flag, says, byte_of}
 use Rattle.flat_record.specs.declared.keeping.FlatRecord.{FlatRecord}
 use Rattle.flat_record.specs.declared.keeping.FlatTaken.{FlatTaken}
@@ -58,29 +57,31 @@ flat_record given r = record {
 }
 
 -- on a refusal the record that was given
-abbrev pub flat_taken : FlatRecord → Taken → FlatTaken
-flat_taken given (takes.Refused n) = record { refusal = n; bytes = 0; messages = 0; after = given }
-flat_taken given (takes.Took bytes messages after) =
-    record { refusal = 0; bytes = bytes; messages = messages; after = flat_record given after }
+abbrev pub flat_taken : FlatRecord → Verdict Taken → FlatTaken
+flat_taken given (refused why) = record { refusal = number_of why; bytes = 0; messages = 0; after = given }
+flat_taken given (taken t) =
+    record { refusal = 0; bytes = t.bytes; messages = t.messages; after = flat_record given t.after }
 
 -- the answer r, the bytes left in the output and the area left are those of the verdict
 pub record FlatAnswered (v : Verdict Taking) (given : FlatRecord) (area out : List ℕ) (r : FlatTaken) (area_left left : List ℕ) : Type 0
   where
-    pub answer : r ≡ flat_taken given (taken_of v)
+    pub answer : r ≡ flat_taken given (v told_by taken_of)
     pub bytes : left ≡ left_of (blocks_of v) out
     pub slots : area_left ≡ area_of v area
 
 -- missing: how many ranges are; first to last is the first of them
-abbrev pub flat_standing : Standing → FlatStanding
-flat_standing (stands.Refused n) = record { refusal = n; complete = 0; missing = 0; first = 0; last = 0 }
-flat_standing stands.Complete = record { refusal = 0; complete = 1; missing = 0; first = 0; last = 0 }
-flat_standing stands.Ongoing = record { refusal = 0; complete = 0; missing = 0; first = 0; last = 0 }
-flat_standing (stands.Missing ranges first last) =
-    record { refusal = 0; complete = 0; missing = ranges; first = first.0; last = last.0 }
+abbrev pub flat_standing : Verdict Standing → FlatStanding
+flat_standing (refused why) = record { refusal = number_of why; complete = 0; missing = 0; first = 0; last = 0 }
+flat_standing (taken stands.Complete) = record { refusal = 0; complete = 1; missing = 0; first = 0; last = 0 }
+flat_standing (taken stands.Ongoing) = record { refusal = 0; complete = 0; missing = 0; first = 0; last = 0 }
+flat_standing (taken (stands.Missing ranges first)) =
+    record { refusal = 0; complete = 0; missing = ranges; first = first.first.0; last = first.last.0 }
 
-abbrev pub flat_range : MissingRange → FlatRange
-flat_range (gives.Refused n) = record { refusal = n; first = 0; last = 0 }
-flat_range (gives.Range r) = record { refusal = 0; first = r.first.0; last = r.last.0 }
+-- noughts where there is none
+abbrev pub flat_range : Verdict (Option Range) → FlatRange
+flat_range (refused why) = record { refusal = number_of why; first = 0; last = 0 }
+flat_range (taken None) = record { refusal = 0; first = 0; last = 0 }
+flat_range (taken (Some r)) = record { refusal = 0; first = r.first.0; last = r.last.0 }
 
 -- the entries: a style or flag that is none is 10, before all else; what they say of a record: Complete.complete-exactly-if and
 -- Ranges.one_by_one
@@ -88,7 +89,7 @@ abbrev pub take_verdict : FlatRecord → (area datagram : List ℕ) (room : ℕ)
 take_verdict given area datagram room = known_record given into λ r. taking r area datagram room
 
 abbrev pub standing_answer : FlatRecord → FlatStanding
-standing_answer given = flat_standing (standing_of (known_record given into standing))
+standing_answer given = flat_standing (known_record given into standing told_by standing_of)
 
 abbrev pub range_answer : FlatRecord → (place : ℕ) → FlatRange
-range_answer given place = flat_range (range_of (known_record given into λ r. range_at r place))
+range_answer given place = flat_range (known_record given into λ r. range_at r place)

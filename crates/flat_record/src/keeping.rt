@@ -1,12 +1,13 @@
 // The session record: taking datagrams, and how it stands.
 ghost use Rattle.std.specs.Prelude.{◌≡◌, length};
-ghost use Rattle.flat_record.specs.Keeping.{session_of, record_of, readable, flat_record, flat_taken, FlatAnswered, flat_standing};
-ghost use Rattle.flat_record.specs.Keeping.{flat_range, take_verdict, standing_answer, range_answer};
+ghost use Rattle.flat_record.specs.Keeping.{session_of, record_of, readable, known_record, flat_record, flat_taken, FlatAnswered};
+ghost use Rattle.flat_record.specs.Keeping.{flat_standing, flat_range, take_verdict, standing_answer, range_answer};
 
 use flat::flag;
 use flat::name::name_of;
-use record::standing::{MissingRange, Standing};
-use record::{Record, Session};
+use missing::Range;
+use record::standing::Standing;
+use record::{Record, Session, standing};
 use taking::Taken;
 use wire::kinds::{Sequence, SessionId};
 use wire::refusal::Refusal;
@@ -58,23 +59,20 @@ pub struct FlatRange {
 fn session_of(given: FlatRecord) -> Session
     ensures { result ≡ session_of given }
 {
-    let style = given.style;
-    let name = given.name;
-    if style == 1 {
-        Session::Ufo(name_of(&name))
+    if given.style == 1 {
+        Session::Ufo(name_of(&given.name))
     } else {
         Session::Memx(SessionId(given.session))
     }
 }
 
-pub(crate) fn is_readable(given: FlatRecord) -> bool
+fn is_readable(given: FlatRecord) -> bool
     ensures { result ≡ readable given }
 {
-    let style = given.style;
-    ((style == 1) | (style == 2)) & flag::is_flag(given.ended)
+    (given.style == 1 || given.style == 2) && flag::is_flag(given.ended)
 }
 
-pub(crate) fn record_of(given: FlatRecord) -> Record
+fn record_of(given: FlatRecord) -> Record
     ensures { result ≡ record_of given }
 {
     Record {
@@ -87,96 +85,97 @@ pub(crate) fn record_of(given: FlatRecord) -> Record
     }
 }
 
+// The record that a flat one is, if its style and its flag are such.
+pub(crate) fn known_record(given: FlatRecord) -> Result<Record, Refusal>
+    ensures { result ≡ known_record given }
+{
+    if is_readable(given) {
+        Ok(record_of(given))
+    } else {
+        Err(Refusal::Broken)
+    }
+}
+
 pub(crate) fn flat_record(given: FlatRecord, after: Record) -> FlatRecord
     ensures { result ≡ flat_record given after }
 {
-    let next = after.next;
-    let top = after.top;
-    let asked = after.asked;
-    let ended = flag::byte_of(after.ended);
-    let mut kept = given;
-    kept.ended = ended;
-    kept.next = next.0;
-    kept.top = top.0;
-    kept.asked = asked.0;
-    kept.held = after.held;
-    kept
+    FlatRecord {
+        ended: flag::byte_of(after.ended),
+        next: after.next.0,
+        top: after.top.0,
+        asked: after.asked.0,
+        held: after.held,
+        ..given
+    }
 }
 
-fn flat_taken(given: FlatRecord, answer: Taken) -> FlatTaken
+fn flat_taken(given: FlatRecord, answer: Result<Taken, Refusal>) -> FlatTaken
     ensures { result ≡ flat_taken given answer }
 {
     match answer {
-        Taken::Refused(number) => FlatTaken {
-            refusal: number as u64,
+        Err(why) => FlatTaken {
+            refusal: why.number() as u64,
             bytes: 0,
             messages: 0,
             after: given,
         },
-        Taken::Took {
-            bytes,
-            messages,
-            after,
-        } => FlatTaken {
+        Ok(taken) => FlatTaken {
             refusal: 0,
-            bytes: bytes as u64,
-            messages: messages as u64,
-            after: flat_record(given, after),
+            bytes: taken.bytes as u64,
+            messages: taken.messages as u64,
+            after: flat_record(given, taken.after),
         },
     }
 }
 
-fn flat_standing(standing: Standing) -> FlatStanding
-    ensures { result ≡ flat_standing standing }
+fn flat_standing(answer: Result<Standing, Refusal>) -> FlatStanding
+    ensures { result ≡ flat_standing answer }
 {
-    let mut flat = FlatStanding {
+    let ongoing = FlatStanding {
         refusal: 0,
         complete: 0,
         missing: 0,
         first: 0,
         last: 0,
     };
-    match standing {
-        Standing::Refused(number) => {
-            flat.refusal = number as u64;
-            flat
-        }
-        Standing::Complete => {
-            flat.complete = 1;
-            flat
-        }
-        Standing::Ongoing => flat,
-        Standing::Missing {
-            ranges,
-            first,
-            last,
-        } => {
-            flat.missing = ranges;
-            flat.first = first.0;
-            flat.last = last.0;
-            flat
-        }
+    match answer {
+        Err(why) => FlatStanding {
+            refusal: why.number() as u64,
+            ..ongoing
+        },
+        Ok(Standing::Complete) => FlatStanding {
+            complete: 1,
+            ..ongoing
+        },
+        Ok(Standing::Ongoing) => ongoing,
+        Ok(Standing::Missing { ranges, first }) => FlatStanding {
+            missing: ranges,
+            first: first.first.0,
+            last: first.last.0,
+            ..ongoing
+        },
     }
 }
 
-fn flat_range(answer: MissingRange) -> FlatRange
+fn flat_range(answer: Result<Option<Range>, Refusal>) -> FlatRange
     ensures { result ≡ flat_range answer }
 {
     match answer {
-        MissingRange::Refused(number) => FlatRange {
-            refusal: number as u64,
+        Err(why) => FlatRange {
+            refusal: why.number() as u64,
             first: 0,
             last: 0,
         },
-        MissingRange::Range(range) => {
-            let first = range.first;
-            let last = range.last;
-            FlatRange {
-                refusal: 0,
-                first: first.0,
-                last: last.0,
-            }
-        }
+        Ok(None) => FlatRange {
+            refusal: 0,
+            first: 0,
+            last: 0,
+        },
+        Ok(Some(range)) => FlatRange {
+            refusal: 0,
+            first: range.first.0,
+            last: range.last.0,
+        },
     }
 }
 
@@ -184,30 +183,21 @@ pub fn take(given: FlatRecord, area: &mut [u8], datagram: &[u8], out: &mut [u8])
     ensures { FlatAnswered (take_verdict given area.old datagram.now (length out.old))
         given area.old out.old result area.new out.new }
 {
-    if is_readable(given) {
-        flat_taken(given, taking::take(record_of(given), area, datagram, out))
-    } else {
-        flat_taken(given, Taken::Refused(Refusal::Broken))
+    match known_record(given) {
+        Ok(kept) => flat_taken(given, taking::take(kept, area, datagram, out)),
+        Err(why) => flat_taken(given, Err(why)),
     }
 }
 
 pub fn standing_of(given: FlatRecord) -> FlatStanding
     ensures { result ≡ standing_answer given }
 {
-    if is_readable(given) {
-        flat_standing(record::standing::standing_of(record_of(given)))
-    } else {
-        flat_standing(Standing::Refused(Refusal::Broken))
-    }
+    flat_standing(known_record(given).and_then(standing::standing_of))
 }
 
 // The missing range at a place, counted from 0; noughts where there is none.
 pub fn missing_range(given: FlatRecord, place: u64) -> FlatRange
     ensures { result ≡ range_answer given place }
 {
-    if is_readable(given) {
-        flat_range(record::standing::missing_range(record_of(given), place))
-    } else {
-        flat_range(MissingRange::Refused(Refusal::Broken))
-    }
+    flat_range(known_record(given).and_then(|kept| standing::missing_range(kept, place)))
 }

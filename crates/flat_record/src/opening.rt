@@ -5,9 +5,9 @@ ghost use Rattle.flat_record.specs.Opening.{bare, flat_opened, open_ufo, open_me
 use crate::keeping;
 use crate::keeping::FlatRecord;
 use flat::name::name_of;
-use record::open;
-use record::open::Opened;
+use record::{Record, open};
 use wire::kinds::SessionId;
+use wire::refusal::Refusal;
 
 #[repr(C)]
 #[derive(Clone, Copy)]
@@ -31,15 +31,15 @@ fn bare(style: u8, name: [u8; 10], session: u64) -> FlatRecord
     }
 }
 
-fn flat_opened(given: FlatRecord, answer: Opened) -> FlatOpened
+fn flat_opened(given: FlatRecord, answer: Result<Record, Refusal>) -> FlatOpened
     ensures { result ≡ flat_opened given answer }
 {
     match answer {
-        Opened::Refused(number) => FlatOpened {
-            refusal: number as u64,
+        Err(why) => FlatOpened {
+            refusal: why.number() as u64,
             opened: bare(0, [0; 10], 0),
         },
-        Opened::Record(fresh) => FlatOpened {
+        Ok(fresh) => FlatOpened {
             refusal: 0,
             opened: keeping::flat_record(given, fresh),
         },
@@ -55,6 +55,8 @@ pub fn open_ufo(name: &[u8; 10]) -> FlatOpened
 pub fn open_memx(session: u64) -> FlatOpened
     ensures { result ≡ open_memx session }
 {
-    let fresh = open::open_memx(SessionId(session));
-    flat_opened(bare(2, [0; 10], session), Opened::Record(fresh))
+    flat_opened(
+        bare(2, [0; 10], session),
+        Ok(open::open_memx(SessionId(session))),
+    )
 }

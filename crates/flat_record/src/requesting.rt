@@ -1,11 +1,12 @@
 // Asking for what is missing.
 ghost use Rattle.std.specs.Prelude.{◌≡◌};
-ghost use Rattle.flat_record.specs.Asking.{flat_asked, ask_answer};
+ghost use Rattle.wire.specs.Checks.{◌told_by◌};
+ghost use Rattle.asking.specs.Asking.{asked_of};
+ghost use Rattle.flat_record.specs.Asking.{flat_asked, ask_verdict, ask_answer};
 
 use crate::keeping;
 use crate::keeping::FlatRecord;
 use asking::Asked;
-use flat::flag;
 use flat_clock::{FlatPatience, FlatSheet};
 use wire::refusal::Refusal;
 
@@ -20,10 +21,10 @@ pub struct FlatAsked {
     pub after: FlatRecord,
 }
 
-fn flat_asked(given: FlatRecord, answer: Asked) -> FlatAsked
+fn flat_asked(given: FlatRecord, answer: Result<Asked, Refusal>) -> FlatAsked
     ensures { result ≡ flat_asked given answer }
 {
-    let mut flat = FlatAsked {
+    let nothing = FlatAsked {
         refusal: 0,
         what: 0,
         first: 0,
@@ -31,20 +32,19 @@ fn flat_asked(given: FlatRecord, answer: Asked) -> FlatAsked
         after: given,
     };
     match answer {
-        Asked::Refused(number) => {
-            flat.refusal = number as u64;
-            flat
-        }
-        Asked::Nothing => flat,
-        Asked::Wait => {
-            flat.what = 1;
-            flat
-        }
-        Asked::Request {
-            first,
-            count,
-            after,
-        } => FlatAsked {
+        Err(why) => FlatAsked {
+            refusal: why.number() as u64,
+            ..nothing
+        },
+        Ok(Asked::Nothing) => nothing,
+        Ok(Asked::Wait) => FlatAsked { what: 1, ..nothing },
+        Ok(
+            Asked::Request {
+                first,
+                count,
+                after,
+            },
+        ) => FlatAsked {
             refusal: 0,
             what: 2,
             first: first.0,
@@ -54,20 +54,22 @@ fn flat_asked(given: FlatRecord, answer: Asked) -> FlatAsked
     }
 }
 
+// What the room answers, where the record and the sheet are such.
+fn asked(
+    given: FlatRecord,
+    sheet: FlatSheet,
+    patience: FlatPatience,
+    elapsed: f64,
+) -> Result<Asked, Refusal>
+    ensures { result ≡ ask_verdict given sheet patience elapsed told_by asked_of }
+{
+    let kept = keeping::known_record(given)?;
+    let sheet = flat_clock::known_sheet(sheet)?;
+    asking::ask(kept, sheet, flat_clock::rule_of(patience), elapsed)
+}
+
 pub fn ask(given: FlatRecord, sheet: FlatSheet, patience: FlatPatience, elapsed: f64) -> FlatAsked
     ensures { result ≡ ask_answer given sheet patience elapsed }
 {
-    if keeping::is_readable(given) & flag::is_flag(sheet.timed) {
-        flat_asked(
-            given,
-            asking::ask(
-                keeping::record_of(given),
-                flat_clock::sheet_of(sheet),
-                flat_clock::rule_of(patience),
-                elapsed,
-            ),
-        )
-    } else {
-        flat_asked(given, Asked::Refused(Refusal::Broken))
-    }
+    flat_asked(given, asked(given, sheet, patience, elapsed))
 }
