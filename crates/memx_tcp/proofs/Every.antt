@@ -1,12 +1,11 @@
 -- What holds of every type: of each row of the table by computation, and of a type that is none.
 -- Assumes nothing.
-use Prim.Native.Nat.{ℕ, zero, suc, ◌+◌, ◌≤◌, ◌<◌}
+use Prim.Native.Nat.{ℕ, ◌+◌, ◌≤◌}
 use mathlib.Core.Path.{◌≡◌, refl, sym}
 use mathlib.Core.Logic.{inl, inr}
 use mathlib.Core.List.{List, [], ◌∷◌, map}
-use mathlib.Core.Bool.{Bool, true, false, not, ◌&&◌, ◌||◌, true≢false}
-use native.Mathlib.Omega.{arith}
-use borrow.Author.Tests.{ne_eqb, eqb-true, eqb-false, leb-true}
+use mathlib.Core.Bool.{Bool, true, false, ◌&&◌, ◌||◌, true≢false}
+use borrow.Author.Tests.{ne_eqb, eqb-true, leb-true}
 use types.Run.{OneOf}
 use Rattle.wire.specs.Checks.{◌is◌, ◌at_most◌}
 use Rattle.wire.proofs.Tests.{by-test, and_left, and_right}
@@ -73,53 +72,7 @@ pub of-known : (P : ℕ → Type 0) → Types P table → (k : ℕ) → known k 
 unfolding known
 of-known P h k e = of_types P table k h e
 
--- ---- bytes
-
--- a test that every number below n passes
-abbrev below : ℕ → (ℕ → Bool) → Bool
-below zero test = true
-below (suc n) test = test n && below n test
-
-of-below : (n : ℕ) (test : ℕ → Bool) → below n test ≡ true → (k : ℕ) → k < n → test k ≡ true
-of-below zero test e k h = absurd (omega arith)
-of-below (suc n) test e k h =
-    by-test (k is n)
-    (λ q. rw (eqb-true k n q) (and_left (test n) (below n test) e))
-    (λ q. let d = eqb-false k n q in of-below n test (and_right (test n) (below n test) e) k (omega arith))
-
-abbrev same : Bool → Bool → Bool
-same true b = b
-same false b = not b
-
-same-means : (a b : Bool) → same a b ≡ true → a ≡ b
-same-means true true e = refl
-same-means true false e = sym e
-same-means false true e = e
-same-means false false e = refl
-
--- the types that there are
-abbrev ranges : ℕ → Bool
-ranges k = k at_most 11 || 100 at_most k && k at_most 104
-
-known_bytes : below 256 (λ k. same (ranges k) (known k)) ≡ true
-unfolding known
-known_bytes = refl
-
-pub known_is : (k : ℕ) → k < 256 → ranges k ≡ known k
-known_is k h = same-means (ranges k) (known k) (of-below 256 (λ k. same (ranges k) (known k)) known_bytes k h)
-
 -- ---- the arms of a match on a type
-
--- what each key of an arm has, a type that is one of them has
-abbrev Keys : (ℕ → Type 0) → List ℕ → Type 0
-Keys P [] = Unit
-Keys P (m ∷ set) = P m × Keys P set
-
-pub by-keys : (P : ℕ → Type 0) (set : List ℕ) (k : ℕ) → Keys P set → OneOf set k → P k
-by-keys P [] k each e = absurd e
-by-keys P (m ∷ []) k each e = rw e each.0
-by-keys P (m ∷ n ∷ set) k each (inl e) = rw e each.0
-by-keys P (m ∷ n ∷ set) k each (inr e) = by-keys P (n ∷ set) k each.1 e
 
 -- a type that is none of some keys
 pub missed : (set : List ℕ) (k : ℕ) → (OneOf set k → ⊥) → k is_one_of set ≡ false
@@ -164,40 +117,3 @@ otherwise test arms e none k m = row-passes test arms table e none k (all-missed
 pub short : (kind : ℕ) → header_size + size (fields_of kind) + most_of kind ≤ limit
 unfolding fields_of most_of size
 short kind = leb-true _ _ (otherwise (λ r. header_size + size r.fields + r.most at_most limit) [] refl (λ k. refl) kind tt)
-
--- login accepted and rejected are numbered side by side: a match finds them by two comparisons
-abbrev pub logins : List ℕ
-logins = 1 ∷ 2 ∷ []
-
-pub under-logins : (k : ℕ) → k < 1 → OneOf logins k → ⊥
-under-logins k h (inl e) = omega arith
-under-logins k h (inr e) = omega arith
-
-pub over-logins : (k : ℕ) → 2 < k → OneOf logins k → ⊥
-over-logins k h (inl e) = omega arith
-over-logins k h (inr e) = omega arith
-
-pub by-logins : (P : ℕ → Type 0) (k : ℕ) → P 1 → P 2 → 1 ≤ k → k ≤ 2 → P k
-by-logins P k one two l h =
-    by-test (k is 1)
-    (λ e. rw (eqb-true k 1 e) one)
-    (λ e. let d = eqb-false k 1 e in let q : k ≡ 2 = omega arith in rw q two)
-
--- ---- letters
-
--- tests one after another, as the code has them
-abbrev in_turn : ℕ → List ℕ → Bool → Bool
-in_turn l [] b = b
-in_turn l (m ∷ set) b = in_turn l set (b || l is m)
-
--- are the test of a table
-pub in-turn : (l : ℕ) (set : List ℕ) (b : Bool) → in_turn l set b ≡ (b || l is_one_of set) && true
-in-turn l [] true = refl
-in-turn l [] false = refl
-in-turn l (m ∷ set) true = in-turn l set true
-in-turn l (m ∷ set) false = in-turn l set (l is m)
-
--- one test alone, of a list of them
-pub one-test : (b : Bool) → b ≡ b && true
-one-test true = refl
-one-test false = refl

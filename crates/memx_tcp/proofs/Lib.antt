@@ -1,6 +1,7 @@
+pub mod OfTypes
 pub mod Laid
 pub mod Every
-pub mod Places
+pub mod OneByte
 pub mod Stored
 pub mod Framing
 pub mod Verdicts

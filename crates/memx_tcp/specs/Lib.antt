@@ -1,3 +1,4 @@
+pub mod Types
 pub mod Layout
 pub mod Packet
 pub mod Read

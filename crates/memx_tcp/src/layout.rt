@@ -1,11 +1,12 @@
 // What each type has.
-ghost use Rattle.std.specs.Prelude.{◌≡◌};
-ghost use Rattle.memx_tcp.specs.Layout.{lettered, numbered, known, fields_of, most_of, size};
+ghost use Rattle.std.specs.Prelude.{◌≡◌, map};
+ghost use Rattle.memx_tcp.specs.Layout.{lettered, numbered, fields_of, most_of, size};
 ghost use Rattle.memx_tcp.specs.Packet.{each};
-ghost use Rattle.memx_tcp.specs.Writing.{values_of};
+ghost use Rattle.memx_tcp.specs.Types.{byte_of};
+ghost use Rattle.memx_tcp.specs.Writing.{under};
 
 use crate::packet::Fields;
-use crate::types;
+use crate::types::Kind;
 
 // The bytes before the fields: the type, and how many bytes follow.
 pub const HEADER: usize = 3;
@@ -18,66 +19,60 @@ pub const SECOND: usize = 11;
 // The third.
 pub const THIRD: usize = 19;
 
-// Whether the paper has the type.
-pub fn is_known(kind: u8) -> bool
-    ensures { result ≡ known kind }
-{
-    (kind <= types::SEQUENCED) | (types::LOGIN <= kind) & (kind <= types::UNSEQUENCED)
-}
-
 // How many bytes the fields have.
-pub fn fixed(kind: u8) -> usize
-    ensures { result ≡ size (fields_of kind) }
+#[tactic(auto, unfolding(crate::specs::Layout::fields_of, crate::specs::Layout::size))]
+pub fn fixed(kind: Kind) -> usize
+    ensures { result ≡ size (fields_of (byte_of kind)) }
 {
     match kind {
-        types::LOGIN_ACCEPTED
-        | types::LOGIN_REJECTED
-        | types::REPLAY_REJECTED
-        | types::STREAM_REJECTED
-        | types::LOGIN => 1,
-        types::REPLAY_COMPLETE => 4,
-        types::START_OF_SESSION | types::STREAM_COMPLETE | types::REPLAY_ALL => 8,
-        types::REPLAY_BEGIN => 12,
-        types::STREAM_BEGIN | types::STREAM => 16,
-        types::REPLAY => 20,
-        _ => 0,
+        Kind::Heartbeat | Kind::EndOfSession | Kind::Sequenced | Kind::Unsequenced => 0,
+        Kind::LoginAccepted
+        | Kind::LoginRejected
+        | Kind::ReplayRejected
+        | Kind::StreamRejected
+        | Kind::Login => 1,
+        Kind::ReplayComplete => 4,
+        Kind::StartOfSession | Kind::StreamComplete | Kind::ReplayAll => 8,
+        Kind::ReplayBegin => 12,
+        Kind::StreamBegin | Kind::Stream => 16,
+        Kind::Replay => 20,
     }
 }
 
 // How many bytes may follow the fields: a token or a payload.
-pub fn most(kind: u8) -> usize
-    ensures { result ≡ most_of kind }
+#[tactic(auto, unfolding(crate::specs::Layout::most_of))]
+pub fn most(kind: Kind) -> usize
+    ensures { result ≡ most_of (byte_of kind) }
 {
     match kind {
-        types::LOGIN => 255,
-        types::SEQUENCED | types::UNSEQUENCED => 65535,
+        Kind::Login => 255,
+        Kind::Sequenced | Kind::Unsequenced => 65535,
         _ => 0,
     }
 }
 
 // Whether the letter stands in its table.
-pub fn is_lettered(p: Fields) -> bool
-    ensures { result ≡ each lettered (fields_of p.kind) (values_of p) }
+#[tactic(auto, unfolding(crate::specs::Layout::fields_of, crate::specs::Packet::each))]
+pub fn is_lettered(kind: Kind, p: Fields) -> bool
+    ensures { let fields = fields_of (byte_of kind) in result ≡ each lettered fields (map (under p) fields) }
 {
-    let kind = p.kind;
-    let l = p.letter;
     match kind {
-        types::LOGIN_ACCEPTED => (l == b'S') | (l == b'R') | (l == b'T'),
-        types::LOGIN_REJECTED => (l == b'T') | (l == b'U') | (l == b'V') | (l == b'A'),
-        types::REPLAY_REJECTED => (l == b'R') | (l == b'A') | (l == b'P') | (l == b'S'),
-        types::STREAM_REJECTED => (l == b'R') | (l == b'P') | (l == b'S'),
-        types::LOGIN => l == b'P',
+        Kind::LoginAccepted => matches!(p.letter, b'S' | b'R' | b'T'),
+        Kind::LoginRejected => matches!(p.letter, b'T' | b'U' | b'V' | b'A'),
+        Kind::ReplayRejected => matches!(p.letter, b'R' | b'A' | b'P' | b'S'),
+        Kind::StreamRejected => matches!(p.letter, b'R' | b'P' | b'S'),
+        Kind::Login => p.letter == b'P',
         _ => true,
     }
 }
 
 // Whether the next number is not 0.
-pub fn is_numbered(p: Fields) -> bool
-    ensures { result ≡ each numbered (fields_of p.kind) (values_of p) }
+#[tactic(auto, unfolding(crate::specs::Layout::fields_of, crate::specs::Packet::each))]
+pub fn is_numbered(kind: Kind, p: Fields) -> bool
+    ensures { let fields = fields_of (byte_of kind) in result ≡ each numbered fields (map (under p) fields) }
 {
-    let kind = p.kind;
     match kind {
-        types::REPLAY_BEGIN | types::STREAM_BEGIN | types::REPLAY => p.number.0 != 0,
+        Kind::ReplayBegin | Kind::StreamBegin | Kind::Replay => p.number.0 != 0,
         _ => true,
     }
 }

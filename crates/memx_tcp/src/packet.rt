@@ -1,8 +1,11 @@
 // A packet's fields by name.
+ghost use Rattle.std.specs.Prelude.{◌≡◌};
+ghost use Rattle.memx_tcp.specs.Reading.{fields};
+
 use wire::kinds::{Sequence, SessionId};
 
 // Those that the type lacks are 0.
-#[derive(Clone, Copy)]
+#[derive(Clone, Copy, Debug, PartialEq, Eq)]
 pub struct Fields {
     // The type byte of the wire.
     pub kind: u8,
@@ -15,4 +18,20 @@ pub struct Fields {
     pub number: Sequence,
     // The highest number published.
     pub top: Sequence,
+}
+
+impl Fields {
+    // Those of a type that has none.
+    pub fn none(kind: u8) -> Fields
+        ensures { result ≡ fields kind 0 0 0 0 0 }
+    {
+        Fields {
+            kind,
+            letter: 0,
+            count: 0,
+            session: SessionId(0),
+            number: Sequence(0),
+            top: Sequence(0),
+        }
+    }
 }

@@ -4,89 +4,74 @@ ghost use Rattle.wire.specs.Checks.{◌is◌, ◌told_by◌};
 ghost use Rattle.memx_tcp.specs.Layout.{most_of, size};
 ghost use Rattle.memx_tcp.specs.Packet.{header_size, limit};
 ghost use Rattle.memx_tcp.specs.Read.{kind_in, values_in, fields_in, end_in, framed, read};
-ghost use Rattle.memx_tcp.specs.Reading.{fields, fields_by, tcp_of};
+ghost use Rattle.memx_tcp.specs.Reading.{fields_by, tcp_of};
+ghost use Rattle.memx_tcp.specs.Types.{byte_of};
 
+use crate::layout;
 use crate::packet::Fields;
-use crate::{layout, types};
+use crate::types::Kind;
 use wire::fields::{get2, get4, get8};
 use wire::kinds::{Sequence, SessionId};
 use wire::refusal::Refusal;
 
 // What a packet says: its fields, and where its token or payload begins and how many bytes it has, both 0 where the type has neither.
-#[derive(Clone, Copy)]
+#[derive(Clone, Copy, Debug, PartialEq, Eq)]
 pub struct Tcp {
     pub fields: Fields,
     pub start: usize,
     pub length: usize,
 }
 
-fn fields(kind: u8, letter: u8, count: u32, session: u64, number: u64, top: u64) -> Fields
-    ensures { result ≡ fields kind letter count session number top }
-{
-    Fields {
-        kind,
-        letter,
-        count,
-        session: SessionId(session),
-        number: Sequence(number),
-        top: Sequence(top),
-    }
-}
-
-// Where the fields of each type stand: for each its letter, count, session, number, top.
-fn fields_of(d: &[u8]) -> Fields
-    requires { end_in d.now ≤ length d.now }
+// Where the fields of each type stand.
+#[tactic(auto, using(crate::proofs::OneByte::letter_read), unfolding(crate::specs::Layout::fields_of, crate::specs::Layout::size, crate::specs::Reading::fields_by, crate::specs::Read::values_in))]
+fn fields_of(kind: Kind, d: &[u8]) -> Fields
+    requires { (kind_in d.now ≡ byte_of kind) × (end_in d.now ≤ length d.now) }
     ensures { result ≡ fields_by (kind_in d.now) (values_in (fields_in d.now) (drop header_size d.now)) }
 {
-    let kind = d[0];
+    let none = Fields::none(kind.byte());
     match kind {
-        types::LOGIN_ACCEPTED
-        | types::LOGIN_REJECTED
-        | types::REPLAY_REJECTED
-        | types::STREAM_REJECTED
-        | types::LOGIN => fields(kind, d[layout::FIRST], 0, 0, 0, 0),
-        types::START_OF_SESSION | types::REPLAY_ALL => {
-            fields(kind, 0, 0, get8(d, layout::FIRST), 0, 0)
-        }
-        types::REPLAY_BEGIN => {
-            fields(
-                kind,
-                0,
-                get4(d, layout::SECOND),
-                0,
-                get8(d, layout::FIRST),
-                0,
-            )
-        }
-        types::REPLAY_COMPLETE => fields(kind, 0, get4(d, layout::FIRST), 0, 0, 0),
-        types::STREAM_BEGIN => {
-            fields(
-                kind,
-                0,
-                0,
-                0,
-                get8(d, layout::FIRST),
-                get8(d, layout::SECOND),
-            )
-        }
-        types::STREAM_COMPLETE => fields(kind, 0, 0, 0, get8(d, layout::FIRST), 0),
-        types::REPLAY => fields(
-            kind,
-            0,
-            get4(d, layout::THIRD),
-            get8(d, layout::FIRST),
-            get8(d, layout::SECOND),
-            0,
-        ),
-        types::STREAM => fields(
-            kind,
-            0,
-            0,
-            get8(d, layout::FIRST),
-            get8(d, layout::SECOND),
-            0,
-        ),
-        _ => fields(kind, 0, 0, 0, 0, 0),
+        Kind::Heartbeat | Kind::EndOfSession | Kind::Sequenced | Kind::Unsequenced => none,
+        Kind::LoginAccepted
+        | Kind::LoginRejected
+        | Kind::ReplayRejected
+        | Kind::StreamRejected
+        | Kind::Login => Fields {
+            letter: d[layout::FIRST],
+            ..none
+        },
+        Kind::StartOfSession | Kind::ReplayAll => Fields {
+            session: SessionId(get8(d, layout::FIRST)),
+            ..none
+        },
+        Kind::ReplayBegin => Fields {
+            number: Sequence(get8(d, layout::FIRST)),
+            count: get4(d, layout::SECOND),
+            ..none
+        },
+        Kind::ReplayComplete => Fields {
+            count: get4(d, layout::FIRST),
+            ..none
+        },
+        Kind::StreamBegin => Fields {
+            number: Sequence(get8(d, layout::FIRST)),
+            top: Sequence(get8(d, layout::SECOND)),
+            ..none
+        },
+        Kind::StreamComplete => Fields {
+            number: Sequence(get8(d, layout::FIRST)),
+            ..none
+        },
+        Kind::Replay => Fields {
+            session: SessionId(get8(d, layout::FIRST)),
+            number: Sequence(get8(d, layout::SECOND)),
+            count: get4(d, layout::THIRD),
+            ..none
+        },
+        Kind::Stream => Fields {
+            session: SessionId(get8(d, layout::FIRST)),
+            number: Sequence(get8(d, layout::SECOND)),
+            ..none
+        },
     }
 }
 
@@ -120,10 +105,8 @@ fn read_payload(d: &[u8]) -> Result<Tcp, Refusal>
     if get2(d, 1) as usize != length {
         return Err(Refusal::Framing);
     }
-    let kind = d[0];
-    let fields = fields(kind, 0, 0, 0, 0, 0);
     Ok(Tcp {
-        fields,
+        fields: Fields::none(d[0]),
         start: layout::HEADER,
         length,
     })
@@ -138,23 +121,21 @@ pub fn read(d: &[u8]) -> Result<Tcp, Refusal>
     if layout::LIMIT < d.len() {
         return Err(Refusal::Overlong);
     }
-    let kind = d[0];
-    if (kind == types::SEQUENCED) | (kind == types::UNSEQUENCED) {
+    let byte = d[0];
+    if byte == Kind::Sequenced.byte() || byte == Kind::Unsequenced.byte() {
         return read_payload(d);
     }
-    if !layout::is_known(kind) {
-        return Err(Refusal::UnknownType);
-    }
+    let kind = Kind::try_from(byte)?;
     let fixed = layout::fixed(kind);
     let most = layout::most(kind);
     if !is_framed(d, fixed, most) {
         return Err(Refusal::Framing);
     }
-    let fields = fields_of(d);
-    if !layout::is_lettered(fields) {
+    let fields = fields_of(kind, d);
+    if !layout::is_lettered(kind, fields) {
         return Err(Refusal::Form);
     }
-    if !layout::is_numbered(fields) {
+    if !layout::is_numbered(kind, fields) {
         return Err(Refusal::Absent);
     }
     let end = layout::HEADER + fixed;

@@ -54,4 +54,4 @@ returns-then-get2-length c =
 pub returns : goal.returns
 returns c =
     let s = c.args.d.now in
-    rw c.fields-fields.ensures (takes s c.requires.0 c.requires.1 c.requires.2 (length s - 3) (omega arith) refl)
+    rw c.none.ensures (takes s c.requires.0 c.requires.1 c.requires.2 (length s - 3) (omega arith) refl)

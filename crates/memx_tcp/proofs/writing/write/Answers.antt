@@ -1,23 +1,27 @@
 -- What the reader says to the packet that would be written is a list of checks, and the code makes them in their order: at the place past
 -- each test one more of them is known to hold. Past the last one the packet is stored part by part.
 use Prim.Native.Nat.{ℕ, ◌+◌, ◌-◌, ◌≤◌}
-use mathlib.Core.List.{[], ◌∷◌}
-use mathlib.Core.Bool.{true}
+use mathlib.Core.List.{[], ◌∷◌, map}
+use mathlib.Core.Bool.{Bool, true}
 use mathlib.Core.Path.{◌≡◌, sym, ◌∙◌}
 use native.Mathlib.Omega.{arith}
 use borrow.Author.Tests.{le-leb, lt-leb}
 use lib.ListN.{length, set, length-set}
 use Rattle.wire.specs.Checks.{◌at_most◌, taken, ◌else◌, checked}
 use Rattle.wire.specs.declared.refusal.Refusal.TheVariants.{Overlong, UnknownType, Framing, Form, Absent}
+use Rattle.wire.proofs.Checks.{passed-on}
 use Rattle.wire.proofs.Settling.{refuses, lacks-room, has_room}
-use Rattle.memx_tcp.specs.Layout.{lettered, numbered, known, fields_of, most_of, size}
+use Rattle.memx_tcp.specs.Layout.{Field, lettered, numbered, known, fields_of, most_of, size}
 use Rattle.memx_tcp.specs.Packet.{Packet, header_size, limit, write, Sized, each}
 use Rattle.memx_tcp.specs.Read.{read}
-use Rattle.memx_tcp.specs.Writing.{values_of, packet_of}
+use Rattle.memx_tcp.specs.Writing.{under, values_of, packet_of}
+use Rattle.memx_tcp.specs.declared.packet.Fields.{Fields}
+use Rattle.memx_tcp.specs.Types.{byte_of}
 use Rattle.memx_tcp.proofs.Every.{short}
+use Rattle.memx_tcp.proofs.OfTypes.{stands-for, stands-for-none, known-kind}
 use Rattle.memx_tcp.proofs.Stored.{Ranged, sized-under, packet-put}
 use Rattle.memx_tcp.proofs.Verdicts.{length-written, written_checks, written-verdict}
-use Rattle.memx_tcp.proofs.writing.write.Goals.{After-put2, Else-not-is_known, Else-not-is_lettered, Else-not-is_numbered, Start}
+use Rattle.memx_tcp.proofs.writing.write.Goals.{After-put2, In_ok-kind, Else-not-is_lettered, Else-not-is_numbered, Start}
 use Rattle.memx_tcp.proofs.writing.write.Goals as goal
 
 -- the packet that would be written, and what its reader says to it
@@ -51,14 +55,25 @@ opened : (c : Start) → known c.args.p.kind ≡ true → bytes_in c ≤ limit �
 opened c typed small = rw (verdict c, le-leb (bytes_in c) limit small, typed)
 
 -- and what the tests behind say
-is_typed : (c : Else-not-is_known) → known c.args.p.kind ≡ true
-is_typed c = sym c.is_known.ensures ∙ c.if-not-is_known.false
+kind_is : (c : In_ok-kind) → c.args.p.kind ≡ byte_of c.in_ok-kind.kind
+kind_is c = stands-for _ c.in_ok-kind.kind (sym c.try_from.ensures ∙ c.in_ok-kind.was)
 
-has-letters : (c : Else-not-is_lettered) → let p = c.args.p in each lettered (fields_of p.kind) (values_of p) ≡ true
-has-letters c = sym c.is_lettered.ensures ∙ c.if-not-is_lettered.false
+is_typed : (c : In_ok-kind) → known c.args.p.kind ≡ true
+is_typed c = rw (kind_is c) (known-kind c.in_ok-kind.kind)
 
-has-numbers : (c : Else-not-is_numbered) → let p = c.args.p in each numbered (fields_of p.kind) (values_of p) ≡ true
-has-numbers c = sym c.is_numbered.ensures ∙ c.if-not-is_numbered.false
+-- a test of the fields, told of the type's byte
+by_byte : (test : Field → ℕ → Bool) (p : Fields) {k : ℕ} {b : Bool} → p.kind ≡ k
+    → b ≡ each test (fields_of k) (map (under p) (fields_of k)) → b ≡ each test (fields_of p.kind) (values_of p)
+unfolding values_of
+by_byte test p e h = rw (← e) at h
+
+has-letters : (c : Else-not-is_lettered) → c.args.p.kind ≡ byte_of c.in_ok-kind.kind
+    → each lettered (fields_of c.args.p.kind) (values_of c.args.p) ≡ true
+has-letters c k = sym (by_byte lettered c.args.p k c.is_lettered.ensures) ∙ c.if-not-is_lettered.false
+
+has-numbers : (c : Else-not-is_numbered) → c.args.p.kind ≡ byte_of c.in_ok-kind.kind
+    → each numbered (fields_of c.args.p.kind) (values_of c.args.p) ≡ true
+has-numbers c k = sym (by_byte numbered c.args.p k c.is_numbered.ensures) ∙ c.if-not-is_numbered.false
 
 pub overflow_add-end : goal.overflow_add-end
 overflow_add-end c = let h = short c.args.p.kind in omega arith
@@ -72,30 +87,33 @@ returns-then-end-body c =
     let h = short c.args.p.kind in
     refuses _ _ Overlong (rw (verdict s, lt-leb (bytes_in s) limit (omega arith)))
 
-pub returns-then-not-is_known : goal.returns-then-not-is_known
-returns-then-not-is_known c =
-    let s = (goal.at.returns-then-not-is_known c).Start in
+pub returns-in_err-kind : goal.returns-in_err-kind
+returns-in_err-kind c =
+    let s = (goal.at.returns-in_err-kind c).Start in
     let h = short c.args.p.kind in
-    let unknown = sym c.is_known.ensures ∙ c.if-not-is_known.true in
-    refuses _ _ UnknownType (rw (verdict s, le-leb (bytes_in s) limit (omega arith), unknown))
+    let none = stands-for-none c.args.p.kind c.in_err-kind.field-0.0 (sym c.try_from.ensures ∙ c.in_err-kind.was) in
+    rw (passed-on c.from_residual.result c.from_residual.ensures.1, none.0)
+    (refuses _ _ UnknownType (rw (verdict s, le-leb (bytes_in s) limit (omega arith), none.1)))
 
 pub returns-then-most-body : goal.returns-then-most-body
 returns-then-most-body c =
     let at = goal.at.returns-then-most-body c in
     let a = c.args in
     let h = short a.p.kind in
+    let m = rw (← kind_is at.In_ok-kind) at c.most.ensures in
     refuses _ _ Framing
-    (rw (opened at.Start (is_typed at.Else-not-is_known) (omega arith), lt-leb (length a.body.now) (most_of a.p.kind) (omega arith)))
+    (rw (opened at.Start (is_typed at.In_ok-kind) (omega arith), lt-leb (length a.body.now) (most_of a.p.kind) (omega arith)))
 
 pub returns-then-not-is_lettered : goal.returns-then-not-is_lettered
 returns-then-not-is_lettered c =
     let at = goal.at.returns-then-not-is_lettered c in
     let a = c.args in
     let h = short a.p.kind in
-    let l = sym c.is_lettered.ensures ∙ c.if-not-is_lettered.true in
+    let m = rw (← kind_is at.In_ok-kind) at c.most.ensures in
+    let l = sym (by_byte lettered c.args.p (kind_is at.In_ok-kind) c.is_lettered.ensures) ∙ c.if-not-is_lettered.true in
     refuses _ _ Form
     (rw (
-      opened at.Start (is_typed at.Else-not-is_known) (omega arith),
+      opened at.Start (is_typed at.In_ok-kind) (omega arith),
       le-leb (length a.body.now) (most_of a.p.kind) (omega arith),
       l,
     ))
@@ -105,12 +123,13 @@ returns-then-not-is_numbered c =
     let at = goal.at.returns-then-not-is_numbered c in
     let a = c.args in
     let h = short a.p.kind in
-    let n = sym c.is_numbered.ensures ∙ c.if-not-is_numbered.true in
+    let m = rw (← kind_is at.In_ok-kind) at c.most.ensures in
+    let n = sym (by_byte numbered c.args.p (kind_is at.In_ok-kind) c.is_numbered.ensures) ∙ c.if-not-is_numbered.true in
     refuses _ _ Absent
     (rw (
-      opened at.Start (is_typed at.Else-not-is_known) (omega arith),
+      opened at.Start (is_typed at.In_ok-kind) (omega arith),
       le-leb (length a.body.now) (most_of a.p.kind) (omega arith),
-      has-letters at.Else-not-is_lettered,
+      has-letters at.Else-not-is_lettered (kind_is at.In_ok-kind),
       n,
     ))
 
@@ -128,10 +147,11 @@ pub returns-then-out-size : goal.returns-then-out-size
 returns-then-out-size c =
     let at = goal.at.returns-then-out-size c in
     let h = short c.args.p.kind in
+    let m = rw (← kind_is at.In_ok-kind) at c.most.ensures in
     let l = long at.Start in
     let r =
-    passed at.Start (is_typed at.Else-not-is_known) (omega arith) (omega arith) (has-letters at.Else-not-is_lettered)
-    (has-numbers at.Else-not-is_numbered) in
+    passed at.Start (is_typed at.In_ok-kind) (omega arith) (omega arith) (has-letters at.Else-not-is_lettered (kind_is at.In_ok-kind))
+    (has-numbers at.Else-not-is_numbered (kind_is at.In_ok-kind)) in
     lacks-room _ (write (laid_out at.Start)) c.args.out.now (rw r) (omega arith)
 
 pub overflow_cast-size : goal.overflow_cast-size
@@ -145,7 +165,9 @@ kept : (c : After-put2) → let a = c.args in length (set a.out.now 0 a.p.kind) 
 kept c = simp length-set
 
 pub put_fields-requires : goal.put_fields-requires
-put_fields-requires c = omega (arith, kept (goal.at.put_fields-requires c).After-put2)
+put_fields-requires c =
+    let at = goal.at.put_fields-requires c in
+    (kind_is at.In_ok-kind, omega (arith, kept at.After-put2))
 
 pub copy-requires : goal.copy-requires
 copy-requires c = omega (arith, kept (goal.at.copy-requires c).After-put2)
@@ -160,10 +182,11 @@ returns c =
     let fixed = c.fixed-end.result in
     let n = header_size + fixed + length c.args.body.now - header_size in
     let h = short c.args.p.kind in
+    let m = rw (← kind_is at.In_ok-kind) at c.most.ensures in
     let l = long s in
     let r =
-    passed s (is_typed at.Else-not-is_known) (omega arith) (omega arith) (has-letters at.Else-not-is_lettered)
-    (has-numbers at.Else-not-is_numbered) in
+    passed s (is_typed at.In_ok-kind) (omega arith) (omega arith) (has-letters at.Else-not-is_lettered (kind_is at.In_ok-kind))
+    (has-numbers at.Else-not-is_numbered (kind_is at.In_ok-kind)) in
     has_room _ (write (laid_out s)) c.args.out.now (rw r) _ _ (omega arith) (omega arith)
     (packet-put (laid_out s) (sized s) c.args.out.now _ _ _ n (header_size + fixed) (omega arith) (omega arith)
     c.put2.ensures c.put_fields.ensures c.copy.ensures)
