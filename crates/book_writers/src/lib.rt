@@ -6,7 +6,7 @@ ghost use Rattle.std.specs.Prelude.{◌+◌, ◌≤◌};
 use book_lines::line::Line;
 use book_page::page;
 use memx_tcp::packet::Fields;
-use memx_tcp::types;
+use memx_tcp::types::Kind;
 use std::io;
 use wire::fields;
 use wire::kinds::{Password, Sequence, SessionId};
@@ -117,20 +117,20 @@ fn soup(d: &[u8], out: &mut [u8]) -> Result<usize, Refusal> {
 
 // Fields that the type lacks have what stands in their place; the writer looks at none of them.
 fn tcp_fields(head: &[u8; FIELDS]) -> Fields {
-    let kind = head[0];
+    let kind = Kind::try_from(head[0]);
     let first = fields::get8(head, 1);
     let second = fields::get8(head, 9);
     let number = match kind {
-        types::REPLAY_BEGIN | types::STREAM_BEGIN | types::STREAM_COMPLETE => first,
+        Ok(Kind::ReplayBegin | Kind::StreamBegin | Kind::StreamComplete) => first,
         _ => second,
     };
     let count = match kind {
-        types::REPLAY_COMPLETE => fields::get4(head, 1),
-        types::REPLAY_BEGIN => fields::get4(head, 9),
+        Ok(Kind::ReplayComplete) => fields::get4(head, 1),
+        Ok(Kind::ReplayBegin) => fields::get4(head, 9),
         _ => fields::get4(head, 17),
     };
     Fields {
-        kind,
+        kind: head[0],
         letter: head[1],
         count,
         session: SessionId(first),
@@ -142,17 +142,19 @@ fn tcp_fields(head: &[u8; FIELDS]) -> Fields {
 // What stands behind the fields is the body.
 fn tcp(d: &[u8], out: &mut [u8]) -> Result<usize, Refusal> {
     let head = head(d);
-    let body = match head[0] {
-        types::LOGIN_ACCEPTED
-        | types::LOGIN_REJECTED
-        | types::REPLAY_REJECTED
-        | types::STREAM_REJECTED
-        | types::LOGIN => 2,
-        types::REPLAY_COMPLETE => 5,
-        types::START_OF_SESSION | types::STREAM_COMPLETE | types::REPLAY_ALL => 9,
-        types::REPLAY_BEGIN => 13,
-        types::STREAM_BEGIN | types::STREAM => 17,
-        types::REPLAY => 21,
+    let body = match Kind::try_from(head[0]) {
+        Ok(
+            Kind::LoginAccepted
+            | Kind::LoginRejected
+            | Kind::ReplayRejected
+            | Kind::StreamRejected
+            | Kind::Login,
+        ) => 2,
+        Ok(Kind::ReplayComplete) => 5,
+        Ok(Kind::StartOfSession | Kind::StreamComplete | Kind::ReplayAll) => 9,
+        Ok(Kind::ReplayBegin) => 13,
+        Ok(Kind::StreamBegin | Kind::Stream) => 17,
+        Ok(Kind::Replay) => 21,
         _ => 1,
     };
     memx_tcp::writing::write(tcp_fields(&head), rest(d, body), out)
