@@ -1,6 +1,8 @@
 -- The outcomes of the room's functions are determined.
 -- Assumes nothing.
 use Rattle.wire.proofs.Outcomes.{Answered, same_answer}
+use Rattle.flat_packet.proofs.nothing.Kinds as nothing
+use Rattle.flat_packet.proofs.nothing.Reads as nothing-reads
 use Rattle.flat_packet.proofs.no_packet.Kinds as no-packet
 use Rattle.flat_packet.proofs.no_packet.Reads as no-packet-reads
 use Rattle.flat_packet.proofs.bare.Kinds as bare
@@ -23,6 +25,9 @@ use Rattle.flat_packet.proofs.requested.Kinds as requested
 use Rattle.flat_packet.proofs.requested.Reads as requested-reads
 use Rattle.flat_packet.proofs.fitting.unfit.Kinds as unfit
 use Rattle.flat_packet.proofs.fitting.unfit.Reads as unfit-reads
+
+nothing-is : Answered 0 nothing.ps nothing.r nothing-reads.Post
+nothing-is κs a x y s t = same_answer
 
 no-packet-is : Answered 0 no-packet.ps no-packet.r no-packet-reads.Post
 no-packet-is κs a x y s t = same_answer

@@ -11,7 +11,7 @@ use wire::refusal::Refusal;
 
 // kind: the type byte of the wire. extra: in MEMX-UDP how many bytes the header has past its own fields.
 #[repr(C)]
-#[derive(Clone, Copy)]
+#[derive(Clone, Copy, Default)]
 pub struct Packet {
     pub kind: u8,
     pub reason: u8,
@@ -38,20 +38,7 @@ pub struct Read {
 pub fn nothing() -> Packet
     ensures { result ≡ nothing }
 {
-    Packet {
-        kind: 0,
-        reason: 0,
-        count: 0,
-        user: [0; 6],
-        password: [0; 10],
-        name: [0; 10],
-        session: 0,
-        number: 0,
-        start: 0,
-        length: 0,
-        next: 0,
-        extra: 0,
-    }
+    Packet::default()
 }
 
 pub fn no_packet(why: Refusal) -> Read
