@@ -8,11 +8,12 @@ use native.Mathlib.Nat.{mul-pos, mul-le-mul_left, mul-le-mul_right, zero-mul}
 use native.Mathlib.Omega.{arith}
 use mathlib.Core.Bool.{Bool, true, false, not, cond, false≢true}
 use lib.IntN.{ℤ}
-use lib.Dec.{T, ltb, ltb→lt, nltb→le, lit<}
+use lib.Dec.{T, ltb, lit<}
 use lib.Ieee.{Float, nan, inf, fin, binary64, low, emax, up, down, odd, units, round, sum, add, sub, mul, div, neg, le, lt}
 use lib.Ieee.Fits.{up_pos, down_pos, and_i, round_is}
 use lib.Ieee.Exact.{HasValue, round_exact}
 use lib.Ieee.Order.{round_mono}
+use Rattle.std.proofs.lemmas.Bool.Decides.{nat_tests}
 use Rattle.clock.specs.Milliseconds.{whole}
 use Rattle.clock.specs.Sheet.{apart}
 use Rattle.clock.proofs.Upto.{Upto, zero-upto, first-zero, of-between}
@@ -144,10 +145,10 @@ absolute (inf s) b (inl h) = absurd h
 absolute (inf s) b (inr h) = absurd h
 absolute (fin true m e) b h =
     if-upto (ltb 0 (m * up e * 1 + 0 * down e)) (fin false m e) (fin true m e) b (λ t. size true m e b h)
-    (λ f. first-zero m (up e) (up_pos e) (omega (arith, nltb→le 0 (m * up e * 1 + 0 * down e) f)))
+    (λ f. first-zero m (up e) (up_pos e) (grind (arith, nat_tests)))
 absolute (fin false m e) b h =
     if-upto (ltb (m * up e * 1) (0 * down e)) (fin true m e) (fin false m e) b
-    (λ t. absurd (omega (arith, ltb→lt (m * up e * 1) (0 * down e) t)))
+    (λ t. absurd (grind (arith, nat_tests)))
     (λ f. size false m e b h)
 
 pub apart-upto : (x y : Float) (b : ℕ) → b ≤ 2 ^ 53 → Upto b x → Upto b y → Upto b (apart x y)

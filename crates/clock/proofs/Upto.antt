@@ -1,18 +1,18 @@
 -- A number from 0 to b, by its size; and that the comparisons with 0 and b say the same of it.
 -- Assumes nothing.
 use mathlib.Core.Path.{◌≡◌, refl, sym, ap, subst}
-use mathlib.Core.Logic.{◌⊎◌, inl, inr}
-use Prim.Native.Nat.{ℕ, zero, suc, ◌+◌, ◌*◌, ◌^◌, ◌≤◌, ◌<◌}
-use native.Mathlib.Nat.{le_of_eq, le_of_lt, lt_irrefl, zero-lt-suc, mul-pos, zero-mul}
+use Prim.Native.Nat.{ℕ, zero, suc, ◌*◌, ◌^◌, ◌≤◌, ◌<◌}
+use native.Mathlib.Nat.{lt_irrefl, zero-lt-suc, mul-pos}
 use native.Mathlib.Omega.{arith}
-use mathlib.Core.Bool.{Bool, true, false, not, ◌&&◌, ◌||◌, true≢false}
+use mathlib.Core.Bool.{Bool, true, false, true≢false}
 use lib.IntN.{ℤ}
-use lib.Dec.{T, ltb, eqb, ltb→lt, nltb→le, eqb→eq, lit<}
+use lib.Dec.{T, lit<}
 use lib.Ieee.{Float, nan, inf, fin, binary64, up, down, round, le}
-use lib.Ieee.Fits.{up_pos, down_pos, and_i, and_l, and_r, eq→eqb}
+use lib.Ieee.Fits.{up_pos, down_pos, and_i, and_l, and_r}
 use lib.Ieee.Exact.{HasValue}
 use lib.Ieee.Back.{round_whole}
 use lib.Ieee.Order.{transfer, le_of_values}
+use Rattle.std.proofs.lemmas.Bool.Decides.{nat_tests}
 use Rattle.clock.specs.Milliseconds.{whole, between}
 
 -- a zero may have either sign
@@ -30,30 +30,6 @@ pub first-zero : (m u : ℕ) → 0 < u → m * u ≡ 0 → m ≡ 0
 first-zero zero u h e = refl
 first-zero (suc m) u h e = absurd (lt_irrefl 0 (subst (λ (k : ℕ). 0 < k) e (mul-pos (zero-lt-suc m) h)))
 
--- ---- a comparison is a test for less, or else one for equal
-
-either : (p q : Bool) → T (p || (q && true)) → T p ⊎ T q
-either true q h = inl tt
-either false true h = inr tt
-either false false h = absurd h
-
-at_most : (a b : ℕ) → T (ltb a b || (eqb a b && true)) → a ≤ b
-at_most a b h = elim (either (ltb a b) (eqb a b) h) [ inl l ↦ le_of_lt (ltb→lt a b l) | inr e ↦ le_of_eq (eqb→eq a b e) ]
-
-pub or_else : (p q : Bool) → (T (not p) → T q) → T (p || q)
-or_else true q h = tt
-or_else false q h = h tt
-
-pub zeros : (a b : ℕ) → a + b ≤ 0 → T (eqb a b && eqb a 0)
-zeros a b h =
-    let e : a ≡ b = omega arith in
-    let z : a ≡ 0 = omega arith in
-    and_i (eqb a b) (eqb a 0) (eq→eqb e) (eq→eqb z)
-
--- -a is at most b
-pub negative-first : (a b : ℕ) → T (ltb 0 (a + b) || (eqb a b && eqb a 0))
-negative-first a b = or_else (ltb 0 (a + b)) (eqb a b && eqb a 0) (λ n. zeros a b (nltb→le 0 (a + b) n))
-
 -- ---- between 0 and y, whose value is b
 
 inside : (x y : Float) (b : ℕ) → HasValue y false b 1 → T (le (whole 0) x) → T (le x y) → Upto b x
@@ -63,10 +39,7 @@ inside (inf true) y b v h k = absurd h
 inside (inf false) nan b v h k = absurd v
 inside (inf false) (inf t) b v h k = absurd v
 inside (inf false) (fin t n d) b v h k = absurd k
-inside (fin true m e) y b v h k =
-    let z : 0 * down e ≡ m * up e * 1 = eqb→eq (0 * down e) (m * up e * 1) (and_l (eqb (0 * down e) (m * up e * 1)) (eqb (0 * down e) 0) h)
-    in
-    first-zero m (up e) (up_pos e) (omega arith)
+inside (fin true m e) y b v h k = first-zero m (up e) (up_pos e) (grind (arith, nat_tests))
 inside (fin false m e) nan b v h k = absurd v
 inside (fin false m e) (inf t) b v h k = absurd v
 inside (fin false m e) (fin true n d) b v h k = absurd (true≢false v.0)
@@ -74,16 +47,14 @@ inside (fin false m e) (fin false n d) b v h k =
     omega (
       arith,
       transfer (m * up e) b (down e) 1 (m * up e) (n * up d) (down e) (down d) (down_pos e) (down_pos d) refl (sym v.1)
-          (at_most (m * up e * down d) (n * up d * down e) k),
+          (grind (arith, nat_tests)),
     )
 
 from_zero : (x : Float) (b : ℕ) → Upto b x → T (le (whole 0) x)
 unfolding le round
 from_zero nan b h = absurd h
 from_zero (inf s) b h = absurd h
-from_zero (fin true m e) b h =
-    let z : 0 * down e ≡ m * up e * 1 = omega (arith, ap (λ (k : ℕ). k * up e) h) in
-    and_i (eqb (0 * down e) (m * up e * 1)) (eqb (0 * down e) 0) (eq→eqb z) (eq→eqb (zero-mul (down e)))
+from_zero (fin true m e) b h = let z = ap (λ (k : ℕ). k * up e) h in grind (arith, nat_tests)
 from_zero (fin false m e) b h = le_of_values (whole 0) (fin false m e) 0 1 (m * up e) (down e) (lit< tt) (down_pos e) (refl, refl)
     (refl, refl) (omega arith)
 
@@ -94,7 +65,7 @@ up_to (inf s) y b v h = absurd h
 up_to (fin s m e) nan b v h = absurd v
 up_to (fin s m e) (inf t) b v h = absurd v
 up_to (fin s m e) (fin true n d) b v h = absurd (true≢false v.0)
-up_to (fin true m e) (fin false n d) b v h = negative-first (m * up e * down d) (n * up d * down e)
+up_to (fin true m e) (fin false n d) b v h = grind (arith, nat_tests)
 up_to (fin false m e) (fin false n d) b v h = le_of_values (fin false m e) (fin false n d) (m * up e) (down e) b 1 (down_pos e) (lit< tt)
     (refl, refl) v (omega arith)
 
