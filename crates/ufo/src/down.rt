@@ -20,6 +20,7 @@ pub enum Down {
     End { total: Sequence },
 }
 
+#[tactic(auto, unfolding(crate::specs::Down::read_a))]
 fn read_accept(d: &[u8]) -> Result<Down, Refusal>
     ensures { result ≡ read_a d.now told_by down_of }
 {
@@ -43,6 +44,7 @@ fn read_accept(d: &[u8]) -> Result<Down, Refusal>
     })
 }
 
+#[tactic(auto, unfolding(crate::specs::Down::read_j))]
 fn read_reject(d: &[u8]) -> Result<Down, Refusal>
     ensures { result ≡ read_j d.now told_by down_of }
 {
@@ -55,6 +57,7 @@ fn read_reject(d: &[u8]) -> Result<Down, Refusal>
     }
 }
 
+#[tactic(auto, unfolding(crate::specs::Down::read_s))]
 fn read_messages(d: &[u8]) -> Result<Down, Refusal>
     ensures { result ≡ read_s d.now told_by down_of }
 {
@@ -78,6 +81,7 @@ fn read_messages(d: &[u8]) -> Result<Down, Refusal>
     })
 }
 
+#[tactic(auto, unfolding(crate::specs::Down::read_e))]
 fn read_end(d: &[u8]) -> Result<Down, Refusal>
     ensures { result ≡ read_e d.now told_by down_of }
 {
@@ -93,6 +97,7 @@ fn read_end(d: &[u8]) -> Result<Down, Refusal>
     })
 }
 
+#[tactic(auto, unfolding(crate::specs::Down::read))]
 pub fn read_down(d: &[u8]) -> Result<Down, Refusal>
     ensures { result ≡ read d.now told_by down_of }
 {

@@ -1,6 +1,8 @@
 // UFO, client to server: a packet of one or more messages, and each message, read.
-ghost use Rattle.std.specs.Prelude.{ℕ, ◌≡◌, ◌+◌, ◌^◌, ◌<◌, ◌≤◌, true, length};
-ghost use Rattle.wire.specs.Checks.{taken, checked, ◌told_by◌};
+ghost use Rattle.std.specs.Prelude.{ℕ, ◌≡◌, ◌+◌, ◌^◌, ◌<◌, ◌≤◌, true, length, [], ◌∷◌};
+ghost use Rattle.wire.specs.Checks.{taken, checked, ◌else◌, ◌told_by◌};
+ghost use Rattle.wire.specs.declared.refusal.Refusal.TheVariants.{Form};
+ghost use Rattle.text.specs.Text.{text_then_spaces};
 ghost use Rattle.wire.specs.Datagram.{limit};
 ghost use Rattle.blocks.specs.Blocks.{upstream, messages_of, count_of, end_at};
 ghost use Rattle.ufo_up.specs.Up.{checks_alone, read_l, read_t, read_u, read_each, read_up, message_at, message_in};
@@ -38,7 +40,18 @@ pub struct Placed {
     pub next: usize,
 }
 
+// A text field is padded on the right, and may be blank.
+fn check_text(t: &[u8]) -> Result<(), Refusal>
+    ensures { result ≡ checked ((text_then_spaces t.now else Form) ∷ []) (taken tt) }
+{
+    if !text::is_text_then_spaces(t) {
+        return Err(Refusal::Form);
+    }
+    Ok(())
+}
+
 // Here m is a message's own bytes, wherever they stand.
+#[tactic(auto, unfolding(crate::specs::Up::read_l))]
 fn read_l(m: &[u8]) -> Result<Up, Refusal>
     ensures { (next : ℕ) → result ≡ read_l m.now told_by up_of next }
 {
@@ -46,17 +59,11 @@ fn read_l(m: &[u8]) -> Result<Up, Refusal>
         return Err(Refusal::Framing);
     }
     let user = &m[1..7];
-    if !text::is_text_then_spaces(user) {
-        return Err(Refusal::Form);
-    }
+    check_text(user)?;
     let password = &m[7..17];
-    if !text::is_text_then_spaces(password) {
-        return Err(Refusal::Form);
-    }
+    check_text(password)?;
     let session = &m[17..27];
-    if !text::is_text_then_spaces(session) {
-        return Err(Refusal::Form);
-    }
+    check_text(session)?;
     if text::is_blank(user) {
         return Err(Refusal::Absent);
     }
@@ -67,6 +74,7 @@ fn read_l(m: &[u8]) -> Result<Up, Refusal>
     })
 }
 
+#[tactic(auto, unfolding(crate::specs::Up::read_t))]
 fn read_t(m: &[u8]) -> Result<Up, Refusal>
     ensures { (next : ℕ) → result ≡ read_t m.now told_by up_of next }
 {
@@ -88,6 +96,7 @@ fn read_t(m: &[u8]) -> Result<Up, Refusal>
 }
 
 // The bytes stand at a place of a packet.
+#[tactic(auto, unfolding(crate::specs::Up::read_u))]
 fn read_u(m: &[u8], place: usize) -> Result<Up, Refusal>
     requires { (0 < length m.now) × (place + length m.now < 2 ^ 64) }
     ensures { result ≡ read_u m.now told_by up_of (place + length m.now) }
@@ -111,6 +120,7 @@ fn alone(m: &[u8], said: Up) -> Result<Up, Refusal>
     Ok(said)
 }
 
+#[tactic(auto, unfolding(crate::specs::Up::read_message, crate::specs::Up::read_alone))]
 fn read_own(m: &[u8], place: usize) -> Result<Up, Refusal>
     requires { (0 < length m.now) × (place + length m.now < 2 ^ 64) }
     ensures { result ≡ read_message m.now told_by up_of (place + length m.now) }
@@ -153,6 +163,7 @@ fn read_each(d: &[u8], count: usize) -> Result<usize, Refusal>
 }
 
 // How many messages a packet has.
+#[tactic(auto, unfolding(crate::specs::Up::read_up))]
 pub fn read_up(d: &[u8]) -> Result<usize, Refusal>
     ensures { result ≡ read_up d.now told_by length }
 {

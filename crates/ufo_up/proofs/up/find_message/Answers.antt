@@ -1,27 +1,18 @@
 -- `find_message` meets its contract: from block to block the walk comes to the place, or past it.
-use Prim.Native.Nat.{◌<◌}
 use mathlib.Core.Path.{sym, ◌∙◌}
 use native.Mathlib.Omega.{arith}
 use Rattle.wire.proofs.Checks.{passed-on}
-use Rattle.ufo_up.proofs.UpFinding.{Reaches, reaches-none, reaches_more, reaches-out, reaches-past, reaches_here}
-use Rattle.ufo_up.proofs.up.find_message.Goals.{In_ok-at}
+use Rattle.ufo_up.proofs.UpFinding.{reaches-none, reaches_more, reaches-out, reaches-past, reaches_here}
 use Rattle.ufo_up.proofs.up.find_message.Goals as goal
-
--- a turn that went on
-onward : (c : In_ok-at) → let a = c.args in Reaches a.d.now a.place c.in_ok-at.field-0.next × (c.loop-at.at < c.in_ok-at.field-0.next)
-onward c =
-    let a = c.args in
-    reaches_more a.d.now (λ i. (c.type_inv.d i).fits) a.place c.loop-at.at c.loop-at.invariant c.loop-at-test.true c.in_ok-at.field-0
-    (sym c.next.ensures ∙ c.in_ok-at.was)
 
 pub loop-at-init : goal.loop-at-init
 loop-at-init c = reaches-none c.args.d.now c.args.place c.requires
 
-pub loop-at-smaller : goal.loop-at-smaller
-loop-at-smaller c = let h = (onward c).1 in omega arith
-
 pub loop-at-preserved : goal.loop-at-preserved
-loop-at-preserved c = (onward c).0
+loop-at-preserved c =
+    let a = c.args in
+    (reaches_more a.d.now (λ i. (c.type_inv.d i).fits) a.place c.loop-at.at c.loop-at.invariant c.loop-at-test.true c.in_ok-at.field-0
+    (sym c.next.ensures ∙ c.in_ok-at.was)).0
 
 pub returns-in_err-at : goal.returns-in_err-at
 returns-in_err-at c =
