@@ -30,6 +30,7 @@ pub enum Says {
 }
 
 // A heartbeat and a shutdown say the same.
+#[tactic(auto, using(wire::proofs::Tests::tests))]
 fn read_news(d: &[u8]) -> Result<Sequence, Refusal>
     requires { header_size ≤ length d.now }
     ensures { result ≡ checked (news_checks d.now) (taken (record { 0 = number_in d.now })) }
@@ -45,6 +46,7 @@ fn read_news(d: &[u8]) -> Result<Sequence, Refusal>
     Ok(Sequence(highest))
 }
 
+#[tactic(auto, using(wire::proofs::Tests::tests))]
 fn read_messages(d: &[u8]) -> Result<Says, Refusal>
     requires { (header_size ≤ length d.now) × (header_size ≤ header_in d.now) }
     ensures { result ≡ checked (messages_checks d.now)
@@ -75,6 +77,7 @@ fn read_messages(d: &[u8]) -> Result<Says, Refusal>
     })
 }
 
+#[tactic(auto, using(wire::proofs::Tests::tests), unfolding(crate::specs::Read::read))]
 pub fn read(d: &[u8]) -> Result<Memx, Refusal>
     ensures { result ≡ read d.now told_by memx_of }
 {

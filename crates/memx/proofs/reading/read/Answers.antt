@@ -31,14 +31,6 @@ byte_fits c = let f = (c.type_inv.d 1).fits in omega arith
 headed : (c : Else-d) → Headed c.args.d.now
 headed c = record { size = omega arith; own = omega arith; header = omega arith; byte = byte_fits c }
 
-pub returns-then-d-eq0 : goal.returns-then-d-eq0
-unfolding read
-returns-then-d-eq0 c = search tests
-
-pub returns-then-d-gt-LIMIT : goal.returns-then-d-gt-LIMIT
-unfolding read
-returns-then-d-gt-LIMIT c = search tests
-
 pub returns-in_err-kind : goal.returns-in_err-kind
 unfolding read
 returns-in_err-kind c =
