@@ -77,7 +77,8 @@ fn blank_book() -> [u8; BOOK]
     [0; BOOK]
 }
 
-// Reads until the room is full or the input ends, and answers how many bytes stand at the room's start.
+// Reads until the room is full or the input ends, and answers how many bytes stand at the room's start. What std has for it takes the
+// heap.
 fn read_full(from: &mut impl Read, room: &mut [u8]) -> io::Result<usize>
     ensures { IfOk result (λ n. n ≤ length room.new) }
 {
