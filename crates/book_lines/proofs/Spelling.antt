@@ -1,8 +1,8 @@
 -- One character further in a text: what stands in front and what is still to come spell the same as before.
 -- Assumes nothing.
 use Rattle.std.proofs.Common.{◌≡◌, ℕ, ◌+◌, ◌*◌, ◌<◌, ◌≤◌, add-one}
-use Rattle.std.proofs.Common.{List, ◌++◌, length, slice_index_or, take, drop, append_assoc, append-nil, set, take-suc-set, drop_of_length-le, drop-cons}
-use Rattle.std.proofs.Common.{Option, Some, None}
+use Rattle.std.proofs.Common.{List, ◌++◌, length, slice_index_or, take, drop, append_assoc, append-nil, set, take-suc-set}
+use Rattle.std.proofs.Common.{drop_of_length-le, drop-cons, Option, Some, None}
 use Rattle.book_lines.specs.Hex.{digit, onto, spelt}
 
 -- the next character of a text
@@ -25,7 +25,8 @@ module _ (i : ℕ) (text : List ℕ) (inside : i < length text) where
   -- it is the second one, and the byte is put
   pub pairs : (count high low : ℕ) (out : List ℕ) → count < length out
       → digit (slice_index_or text i 0) ≡ Some low
-      → take (count + 1) (set out count (high * 16 + low)) ++ spelt None (drop (i + 1) text) ≡ take count out ++ spelt (Some high) (drop i text)
+      → take (count + 1) (set out count (high * 16 + low)) ++ spelt None (drop (i + 1) text)
+      ≡ take count out ++ spelt (Some high) (drop i text)
   unfolding onto
   pairs count high low out room e = rw (one_more (Some high) i text inside, e, add-one, take-suc-set, append_assoc)
 

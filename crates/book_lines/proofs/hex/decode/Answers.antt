@@ -11,13 +11,14 @@ loop-b-preserved c =
     let said = sym c.digit.ensures.value in
     elim c.match-digit.branch [
       | in_default-None w ↦
-          let d = said ∙ w.in_default-None.is-1 in
-          rw (w.count-is, w.out-is, w.waits-is) (omega arith, l.invariant.1, rw (skips l.b-index text (omega arith) l.waits d) l.invariant.2)
+          let e = skips l.b-index text (omega arith) l.waits (said ∙ w.in_default-None.is-1) in
+          rw (w.count-is, w.out-is, w.waits-is) (omega arith, l.invariant.1, rw e l.invariant.2)
       | in-None-Some w ↦
-          let d = said ∙ w.in-None-Some.is-1 in
-          let low = rw w.in-None-Some.is-1 at c.digit.ensures.bound in
-          let was = rw w.in-None-Some.is-0 at l.invariant.2 in
-          rw (w.count-is, w.out-is, w.waits-is) (omega arith, low, rw (waits l.b-index text (omega arith) w.in-None-Some.low d) was)
+          let p = w.in-None-Some in
+          let low = rw p.is-1 at c.digit.ensures.bound in
+          let was = rw p.is-0 at l.invariant.2 in
+          let e = waits l.b-index text (omega arith) p.low (said ∙ p.is-1) in
+          rw (w.count-is, w.out-is, w.waits-is) (omega arith, low, rw e was)
       | in-Some-Some w ↦
           let p = w.in-Some-Some in
           let was = rw p.is-0 at l.invariant.2 in
