@@ -15,12 +15,14 @@ use Rattle.blocks.proofs.Skipping.{stepped-at, none-at}
 use Rattle.held.specs.Holding.{Holding, hold_one, hold_all, Held}
 use Rattle.held.proofs.Holds.{all-keeps}
 use Rattle.record.specs.Record.{hangs}
-use Rattle.reports.specs.Reports.{Fills, blocks_from}
+use Rattle.reports.specs.Reports.{blocks_from}
 use Rattle.reports.proofs.Reports.{counted}
 use Rattle.taking.specs.Taking.{clash, told}
-use Rattle.taking.specs.Ways.{TakesMessages}
+use Rattle.taking.specs.Ways.{TakesBatch}
 use Rattle.record.specs.declared.Record.{Record}
 use Rattle.taking.specs.declared.Taken.{Taken}
+use Rattle.taking.specs.declared.batch.Batch.{Batch}
+use Rattle.taking.proofs.Brought.{brings}
 use Rattle.taking.proofs.EarlyOrLate.{reports-early}
 use Rattle.wire.specs.declared.refusal.Refusal.TheVariants.{Contradiction}
 
@@ -60,33 +62,36 @@ unfolding hold_all
 one-long next h number message = (all-keeps next h number (message ∷ [])).long
 
 -- messages whose blocks fill the datagram from p on come early
-module _ (r : Record) (area d : List ℕ) (p from count : ℕ) (f : Fills d p from count) (h : hangs r ≡ true) (a : r.next.0 < from) where
-  abbrev ms : List (List ℕ)
-  ms = blocks_from d p count
+module _ (b : Batch) (r : Record) (area : List ℕ) (h : hangs r ≡ true) (a : r.next.0 < b.first) where
+  abbrev from : ℕ
+  from = b.first
 
-  many : length ms ≡ count
-  many = counted d p from count f
+  abbrev ms : List (List ℕ)
+  ms = blocks_from b.datagram.now b.place b.count
+
+  many : length ms ≡ b.count
+  many = counted b.datagram.now b.place from b.count (brings b)
 
   -- the packet contradicts
-  pub early-clash : clash r (from + count - 1) false ≡ true → TakesMessages r from count area d p [] (refused Contradiction) area []
+  pub early-clash : clash r (from + b.count - 1) false ≡ true → TakesBatch r b area [] (refused Contradiction) area []
   early-clash c = rw (reports-early r area 0 from ms h a, many, c) (record { answer = refl; bytes = refl; slots = refl })
 
   -- or its messages are held
-  pub early-kept : (held : ℕ) (left : List ℕ) → clash r (from + count - 1) false ≡ false
+  pub early-kept : (held : ℕ) (left : List ℕ) → clash r (from + b.count - 1) false ≡ false
       → Held (hold_all r.next.0 (record { held = r.held; area = area }) from ms) held left
-      → TakesMessages r from count area d p []
-      (taken (record { bytes = 0; messages = 0; after = told r r.next.0 held (from + count - 1) false })) left []
+      → TakesBatch r b area []
+      (taken (record { bytes = 0; messages = 0; after = told r r.next.0 held (from + b.count - 1) false })) left []
   unfolding frames
   early-kept held left c k =
       rw (reports-early r area 0 from ms h a, many, c, k.bitmap, k.bytes) (record { answer = refl; bytes = refl; slots = refl })
 
   -- and the output does not matter
-  pub early-any : (t : Verdict Taken) (left out : List ℕ) → TakesMessages r from count area d p [] t left []
-      → TakesMessages r from count area d p out t left out
+  pub early-any : (t : Verdict Taken) (left out : List ℕ) → TakesBatch r b area [] t left []
+      → TakesBatch r b area out t left out
   unfolding frames
   early-any t left out e =
       let k = rw (reports-early r area 0 from ms h a, many) at e in
       rw (reports-early r area (length out) from ms h a, many)
-      (by-test (clash r (from + count - 1) false)
+      (by-test (clash r (from + b.count - 1) false)
       (λ c. let g = rw c at k in rw c (record { answer = g.answer; bytes = refl; slots = g.slots }))
       (λ c. let g = rw c at k in rw c (record { answer = g.answer; bytes = refl; slots = g.slots })))

@@ -12,7 +12,6 @@ use Rattle.wire.specs.Checks.{taken}
 use Rattle.wire.proofs.Checks.{passed-on}
 use Rattle.held.proofs.Hangs.{freed-sound}
 use Rattle.taking.specs.Delivering.{Handed}
-use Rattle.taking.proofs.Brought.{brings}
 use Rattle.taking.proofs.HandingOver.{hands-others, room, tells-clash, tells, released-few}
 use Rattle.taking.proofs.hand_over.Goals.{After-deliver}
 use Rattle.taking.proofs.hand_over.Goals as goal
@@ -23,12 +22,12 @@ highest-fits (Ufo name) = omega arith
 highest-fits (Memx id) = omega arith
 
 given_so : (c : After-deliver) → let a = c.args in
-    Handed (room a.kept a.area.now a.out.now a.batch.datagram.now a.batch.place a.batch.first a.batch.count (brings a.batch))
+    Handed (room a.batch a.kept a.area.now a.out.now)
     a.out.now c.deliver.result c.deliver.new.out
 given_so c =
     let a = c.args in
     let sound = freed-sound a.kept.held a.area.now (a.batch.first + a.batch.count - a.kept.next.0) a.kept.next.0 c.requires.1 in
-    rw (hands-others a.batch.datagram.now a.batch.bytes a.batch.place a.batch.first a.batch.count (brings a.batch)
+    rw (hands-others a.batch
     (a.kept.next.0 - a.batch.first) _ a.area.now (a.batch.first + a.batch.count) (length a.out.now) (omega arith) sound) at
     (rw (c.free_from-held.ensures, c.past-past.ensures) at c.deliver.ensures)
 
@@ -36,14 +35,14 @@ reaches : (c : After-deliver) (g : Released) → c.deliver.result ≡ taken g �
     (g.messages ≤ 31) × (a.batch.first + a.batch.count + g.messages ≤ max a.kept.top.0 (a.batch.first + a.batch.count - 1) + 1)
 reaches c g e =
     let a = c.args in
-    released-few a.kept a.area.now a.out.now a.batch.datagram.now a.batch.place a.batch.first a.batch.count (brings a.batch) c.requires.0
+    released-few a.batch a.kept a.area.now a.out.now c.requires.0
     c.requires.2 c.requires.3
     g _ (rw e at (given_so c))
 
 pub returns-then-contradicts : goal.returns-then-contradicts
 returns-then-contradicts c =
     let a = c.args in
-    tells-clash a.kept a.area.now a.out.now a.batch.datagram.now a.batch.place a.batch.first a.batch.count (brings a.batch)
+    tells-clash a.batch a.kept a.area.now a.out.now
     (sym (rw c.past-past.ensures at c.contradicts.ensures) ∙ c.if-contradicts.true)
 
 pub overflow_add-reached : goal.overflow_add-reached
@@ -62,7 +61,7 @@ pub returns-in_err-given : goal.returns-in_err-given
 returns-in_err-given c =
     let a = c.args in
     rw (passed-on c.from_residual.result c.from_residual.ensures.1)
-    (tells a.kept a.area.now a.out.now a.batch.datagram.now a.batch.place a.batch.first a.batch.count (brings a.batch) c.requires.2
+    (tells a.batch a.kept a.area.now a.out.now c.requires.2
     c.requires.3
     (sym (rw c.past-past.ensures at c.contradicts.ensures) ∙ c.if-contradicts.false) _ _
     (rw c.in_err-given.was at (given_so (goal.at.returns-in_err-given c).After-deliver)))
@@ -71,7 +70,7 @@ pub returns : goal.returns
 returns c =
     let a = c.args in
     rw (c.tell.ensures, c.free_from-free.ensures, c.free_from-held.ensures, c.past-past.ensures)
-    (tells a.kept a.area.now a.out.now a.batch.datagram.now a.batch.place a.batch.first a.batch.count (brings a.batch) c.requires.2
+    (tells a.batch a.kept a.area.now a.out.now c.requires.2
     c.requires.3
     (sym (rw c.past-past.ensures at c.contradicts.ensures) ∙ c.if-contradicts.false) _ _
     (rw c.in_ok-given.was at (given_so (goal.at.returns c).After-deliver)))

@@ -7,7 +7,6 @@ use Rattle.wire.proofs.Checks.{passed-on}
 use Rattle.wire.proofs.Settling.{settled-by}
 use Rattle.blocks.specs.Blocks.{frames}
 use Rattle.reports.specs.Reports.{blocks_from}
-use Rattle.taking.proofs.Brought.{brings}
 use Rattle.taking.proofs.HandingOver.{hands-own, tells-clash, tells-own}
 use Rattle.taking.proofs.hand_over_own.Goals.{After-deliver_own}
 use Rattle.taking.proofs.hand_over_own.Goals as goal
@@ -18,21 +17,21 @@ settled : (c : After-deliver_own) → let a = c.args in
     a.out.now c.deliver_own.result c.deliver_own.new.out
 settled c =
     let a = c.args in
-    settled-by (hands-own a.batch.datagram.now a.batch.bytes a.batch.place a.batch.first a.batch.count (brings a.batch) (a.kept.next.0 -
+    settled-by (hands-own a.batch (a.kept.next.0 -
     a.batch.first)
     (length a.out.now) (omega arith)) c.deliver_own.ensures
 
 pub returns-then-contradicts : goal.returns-then-contradicts
 returns-then-contradicts c =
     let a = c.args in
-    tells-clash a.kept a.area.now a.out.now a.batch.datagram.now a.batch.place a.batch.first a.batch.count (brings a.batch)
+    tells-clash a.batch a.kept a.area.now a.out.now
     (sym (rw c.past-past.ensures at c.contradicts.ensures) ∙ c.if-contradicts.true)
 
 pub returns-in_err-bytes : goal.returns-in_err-bytes
 returns-in_err-bytes c =
     let a = c.args in
     rw (passed-on c.from_residual.result c.from_residual.ensures.1)
-    (tells-own a.kept a.area.now a.out.now a.batch.datagram.now a.batch.place a.batch.first a.batch.count (brings a.batch) c.requires.1
+    (tells-own a.batch a.kept a.area.now a.out.now c.requires.1
     c.requires.2
     (sym (rw c.past-past.ensures at c.contradicts.ensures) ∙ c.if-contradicts.false) c.requires.0 _ _
     (rw c.in_err-bytes.was at (settled (goal.at.returns-in_err-bytes c).After-deliver_own)))
@@ -41,7 +40,7 @@ pub returns : goal.returns
 returns c =
     let a = c.args in
     rw (c.tell.ensures, c.past-past.ensures)
-    (tells-own a.kept a.area.now a.out.now a.batch.datagram.now a.batch.place a.batch.first a.batch.count (brings a.batch) c.requires.1
+    (tells-own a.batch a.kept a.area.now a.out.now c.requires.1
     c.requires.2
     (sym (rw c.past-past.ensures at c.contradicts.ensures) ∙ c.if-contradicts.false) c.requires.0 _ _
     (rw c.in_ok-bytes.was at (settled (goal.at.returns c).After-deliver_own)))
