@@ -13,6 +13,7 @@ pub mod Room
 pub mod Took
 pub mod Tape
 pub mod Brought
+pub mod Telling
 pub mod Trying
 pub mod Twice
 pub mod Whose

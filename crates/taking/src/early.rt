@@ -7,7 +7,7 @@ ghost use Rattle.taking.specs.Ways.{TakesBatch};
 
 use crate::Taken;
 use crate::batch::Batch;
-use crate::tell::{contradicts, tell};
+use crate::tell::tell;
 use held::holding::hold;
 use record::Record;
 use wire::refusal::Refusal;
@@ -34,14 +34,11 @@ pub(crate) fn hold_early(kept: Record, batch: Batch, area: &mut [u8]) -> Result<
     ensures { TakesBatch kept batch.entry area.old []
         result area.new [] }
 {
-    let past = batch.past();
-    if contradicts(kept, past - 1, false) {
-        return Err(Refusal::Contradiction);
-    }
+    let told = tell(kept, batch.past() - 1, false)?;
     let held = hold_each(kept.held, kept.next.0, batch, area);
     Ok(Taken {
         bytes: 0,
         messages: 0,
-        after: tell(kept, kept.next.0, held, past - 1, false),
+        after: Record { held, ..told },
     })
 }

@@ -16,12 +16,13 @@ ghost use Rattle.taking.specs.Ways.{passing, TakesBatch};
 use crate::batch::Batch;
 use crate::deliver::{deliver, deliver_own};
 use crate::early::hold_early;
-use crate::tell::{contradicts, tell};
+use crate::tell::tell;
 use held::hanging::is_whole;
 use held::slots::free_from;
 use record::Record;
 use record::hangs::is_well_kept;
 use reports::{Reported, report_of};
+use wire::kinds::Sequence;
 use wire::refusal::Refusal;
 
 // How many bytes and messages went out, and the record afterwards.
@@ -36,31 +37,32 @@ pub struct Taken {
 fn pass(kept: Record, top: u64, end: bool) -> Result<Taken, Refusal>
     ensures { result ≡ passing kept [] top end told_by taken_of }
 {
-    if contradicts(kept, top, end) {
-        return Err(Refusal::Contradiction);
-    }
+    let after = tell(kept, top, end)?;
     Ok(Taken {
         bytes: 0,
         messages: 0,
-        after: tell(kept, kept.next.0, kept.held, top, end),
+        after,
     })
 }
 
-// The record's next message is among the packet's, and nothing is held: the blocks from there on are delivered.
+// The record's next message is among the packet's, and nothing is held: the blocks from there on are delivered. Most packets go this
+// way, so it is one of its own: it does nothing that the next does not.
 fn hand_over_own(kept: Record, batch: Batch, area: &[u8], out: &mut [u8]) -> Result<Taken, Refusal>
     requires { (kept.held ≡ 0) × (batch.first ≤ kept.next.0) × (kept.next.0 < batch.first + batch.count) }
     ensures { TakesBatch kept batch.entry area.now out.old
         result area.now out.new }
 {
     let past = batch.past();
-    if contradicts(kept, past - 1, false) {
-        return Err(Refusal::Contradiction);
-    }
+    let told = tell(kept, past - 1, false)?;
     let bytes = deliver_own(batch, kept.next.0 - batch.first, out)?;
     Ok(Taken {
         bytes,
         messages: (past - kept.next.0) as u32,
-        after: tell(kept, past, 0, past - 1, false),
+        after: Record {
+            next: Sequence(past),
+            held: 0,
+            ..told
+        },
     })
 }
 
@@ -72,17 +74,18 @@ fn hand_over(kept: Record, batch: Batch, area: &[u8], out: &mut [u8]) -> Result<
         result area.now out.new }
 {
     let past = batch.past();
-    if contradicts(kept, past - 1, false) {
-        return Err(Refusal::Contradiction);
-    }
+    let told = tell(kept, past - 1, false)?;
     let held = free_from(kept.held, kept.next.0, past - kept.next.0);
     let given = deliver(batch, kept.next.0 - batch.first, held, area, out)?;
     let reached = past + given.messages as u64;
-    let free = free_from(held, past, given.messages as u64);
     Ok(Taken {
         bytes: given.bytes,
         messages: (reached - kept.next.0) as u32,
-        after: tell(kept, reached, free, past - 1, false),
+        after: Record {
+            next: Sequence(reached),
+            held: free_from(held, past, given.messages as u64),
+            ..told
+        },
     })
 }
 

@@ -1,6 +1,7 @@
 -- `hand_over` meets its contract: 12; else what is delivered, its own and the released, has room or not, and the record follows.
-use Prim.Native.Nat.{◌+◌, ◌-◌, ◌^◌, ◌≤◌, ◌<◌, max}
-use mathlib.Core.Path.{◌≡◌, sym, ◌∙◌}
+use Prim.Native.Nat.{max, ◌+◌, ◌-◌, ◌<◌, ◌^◌, ◌≤◌}
+use mathlib.Core.Path.{◌≡◌}
+use mathlib.Core.Bool.{false}
 use native.Mathlib.Omega.{arith}
 use lib.ListN.{length}
 use Rattle.record.specs.Record.{highest}
@@ -12,6 +13,7 @@ use Rattle.wire.specs.Checks.{taken}
 use Rattle.wire.proofs.Checks.{passed-on}
 use Rattle.held.proofs.Hangs.{freed-sound}
 use Rattle.taking.specs.Delivering.{Handed}
+use Rattle.taking.proofs.Telling.{contradicted, heard}
 use Rattle.taking.proofs.HandingOver.{hands-others, room, tells-clash, tells, released-few}
 use Rattle.taking.proofs.hand_over.Goals.{After-deliver}
 use Rattle.taking.proofs.hand_over.Goals as goal
@@ -39,11 +41,11 @@ reaches c g e =
     c.requires.2 c.requires.3
     g _ (rw e at (given_so c))
 
-pub returns-then-contradicts : goal.returns-then-contradicts
-returns-then-contradicts c =
+pub returns-in_err-told : goal.returns-in_err-told
+returns-in_err-told c =
     let a = c.args in
-    tells-clash a.batch a.kept a.area.now a.out.now
-    (sym (rw c.past-past.ensures at c.contradicts.ensures) ∙ c.if-contradicts.true)
+    let t = contradicted a.kept (a.batch.first + a.batch.count - 1) false (rw c.past-past.ensures at c.tell.ensures) c.in_err-told.was in
+    rw (passed-on c.from_residual.result c.from_residual.ensures.1, t.1) (tells-clash a.batch a.kept a.area.now a.out.now t.0)
 
 pub overflow_add-reached : goal.overflow_add-reached
 overflow_add-reached c =
@@ -60,17 +62,16 @@ overflow_cast-result c =
 pub returns-in_err-given : goal.returns-in_err-given
 returns-in_err-given c =
     let a = c.args in
-    rw (passed-on c.from_residual.result c.from_residual.ensures.1)
-    (tells a.batch a.kept a.area.now a.out.now c.requires.2
-    c.requires.3
-    (sym (rw c.past-past.ensures at c.contradicts.ensures) ∙ c.if-contradicts.false) _ _
+    let t = heard a.kept (a.batch.first + a.batch.count - 1) false (rw c.past-past.ensures at c.tell.ensures) c.in_ok-told.was in
+    let r = c.from_residual-in_err-given in
+    rw (passed-on r.result r.ensures.1)
+    (tells a.batch a.kept a.area.now a.out.now c.requires.2 c.requires.3 t.0 _ _
     (rw c.in_err-given.was at (given_so (goal.at.returns-in_err-given c).After-deliver)))
 
 pub returns : goal.returns
 returns c =
     let a = c.args in
-    rw (c.tell.ensures, c.free_from-free.ensures, c.free_from-held.ensures, c.past-past.ensures)
-    (tells a.batch a.kept a.area.now a.out.now c.requires.2
-    c.requires.3
-    (sym (rw c.past-past.ensures at c.contradicts.ensures) ∙ c.if-contradicts.false) _ _
+    let t = heard a.kept (a.batch.first + a.batch.count - 1) false (rw c.past-past.ensures at c.tell.ensures) c.in_ok-told.was in
+    rw (t.1, c.free_from.ensures, c.free_from-held.ensures, c.past-past.ensures)
+    (tells a.batch a.kept a.area.now a.out.now c.requires.2 c.requires.3 t.0 _ _
     (rw c.in_ok-given.was at (given_so (goal.at.returns c).After-deliver)))
