@@ -5,8 +5,7 @@ use mathlib.Core.Path.{◌≡◌, refl, ◌∙◌}
 use mathlib.Core.List.{List, [], ◌∷◌}
 use mathlib.Core.Bool.{not}
 use borrow.Author.Tests.{le-leb, lt-leb, ne_eqb}
-use lib.ListN.{length, length-set}
-use native.Mathlib.Omega.{arith}
+use lib.ListN.{length}
 use Rattle.wire.specs.Checks.{◌is◌, ◌at_most◌, ◌else◌, checked}
 use Rattle.wire.specs.Fields.{bytes_of}
 use Rattle.names.specs.Names.{name_bytes}
@@ -75,13 +74,6 @@ returns-then-out-lt15 c =
     let n = named (goal.at.returns-then-out-lt15 c).Else-is_blank_name in
     let f = fits a.session a.next.0 (length a.out.now) n c.if-number-eq0.false c.if-number-gt-HIGHEST.false in
     lacks-room _ (packet a.session a.next.0) a.out.now f c.if-out-lt15.true
-
-pub put_name-requires : goal.put_name-requires
-put_name-requires c = simp length-set (omega arith)
-
-pub put4-requires : goal.put4-requires
-put4-requires c =
-    omega (arith, length-set c.args.out.now 0 65)
 
 pub returns : goal.returns
 unfolding bytes_of

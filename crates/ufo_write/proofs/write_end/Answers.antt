@@ -2,7 +2,7 @@
 use Prim.Native.Nat.{◌-◌, ◌^◌}
 use mathlib.Core.Path.{refl}
 use borrow.Author.Tests.{le-leb, lt-leb}
-use lib.ListN.{length, length-set}
+use lib.ListN.{length}
 use native.Mathlib.Omega.{arith}
 use Rattle.wire.specs.Fields.{bytes_of}
 use Rattle.wire.specs.declared.refusal.Refusal.TheVariants.{Bound, Room}
@@ -20,9 +20,6 @@ unfolding bytes_of
 returns-then-out-lt5 c =
     let a = c.args in
     rw (end-reply, le-leb a.total.0 (2 ^ 32 - 2) (omega arith), lt-leb 5 (length a.out.now) c.if-out-lt5.true) (refuses _ _ Room refl)
-
-pub put4-requires : goal.put4-requires
-put4-requires c = simp length-set (omega arith)
 
 pub returns : goal.returns
 unfolding bytes_of

@@ -5,7 +5,7 @@ use mathlib.Core.Path.{◌≡◌, refl, sym}
 use mathlib.Core.List.{List, [], ◌∷◌}
 use mathlib.Core.Bool.{Bool, true, not}
 use borrow.Author.Tests.{le-leb, lt-leb, ne_eqb, not-true, not-false}
-use lib.ListN.{length, length-set}
+use lib.ListN.{length}
 use lib.Seq.{take-length}
 use native.Mathlib.Omega.{arith}
 use Rattle.wire.specs.Checks.{◌is◌, ◌at_most◌, ◌else◌, checked}
@@ -89,17 +89,6 @@ returns-then-out-size c =
     let w = (filled (goal.at.returns-then-out-size c).Else-not-exactly (found (goal.at.returns-then-out-size c).After-exactly)) in
     let f = fits a.first.0 a.count a.blocks.now (length a.out.now) w c.if-number-eq0.false (omega arith) in
     lacks-room _ (laid a.first.0 a.count a.blocks.now) a.out.now f (rw length-laid c.if-out-size.true)
-
-pub put4-requires : goal.put4-requires
-put4-requires c = simp length-set (omega arith)
-
-pub put2-requires : goal.put2-requires
-put2-requires c =
-    omega (arith, length-set c.args.out.now 0 83)
-
-pub copy-requires : goal.copy-requires
-copy-requires c =
-    omega (arith, length-set c.args.out.now 0 83)
 
 pub returns : goal.returns
 returns c =

@@ -1,8 +1,7 @@
 -- `write_reject` meets its contract: what the reader would refuse, then 9, then the packet.
 use mathlib.Core.Path.{refl}
 use borrow.Author.Tests.{le-leb, lt-leb}
-use lib.ListN.{length, length-set}
-use native.Mathlib.Omega.{arith}
+use lib.ListN.{length}
 use Rattle.wire.proofs.Tests.{one-of-test, one-of-fails}
 use Rattle.wire.specs.declared.refusal.Refusal.TheVariants.{Form, Room}
 use Rattle.wire.proofs.Settling.{refuses, writes}
@@ -15,12 +14,6 @@ returns-then-out-lt2 c =
     let a = c.args in
     rw (reject-reply, one-of-test a.reason 65 83 c.in-65.is, lt-leb 2 (length a.out.now) c.if-out-lt2.true)
     (refuses _ _ Room refl)
-
-pub bounds-out-1 : goal.bounds-out-1
-bounds-out-1 c = simp length-set (omega arith)
-
-pub shape_of-out : goal.shape_of-out
-shape_of-out c = simp length-set
 
 pub returns-else-out-lt2 : goal.returns-else-out-lt2
 returns-else-out-lt2 c =
