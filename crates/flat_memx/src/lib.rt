@@ -89,6 +89,7 @@ fn written(fields: Packet, extra: &[u8], body: &[u8], out: &mut [u8]) -> Result<
 }
 
 // The header's extra bytes are given: fields.extra is not looked at.
+#[tactic(auto, using(flat::proofs::Flattening::flattens))]
 pub fn write(fields: Packet, extra: &[u8], body: &[u8], out: &mut [u8]) -> Wrote
     ensures { FlatSettled (memx_reply fields extra.now body.now (length out.old))
         out.old result out.new }
