@@ -52,7 +52,8 @@ module _ (r : Record) (s : Sheet) (p : Patience) (elapsed : Float) where
       → Requests r first count after
   unfolding asking request_of
   requests first count after e =
-      let c = all-passed ((hangs r else Broken) ∷ []) (wait_over s p elapsed into λ late. taken (wish r late)) (request first count after) e in
+      let v = wait_over s p elapsed into λ late. taken (wish r late) in
+      let c = all-passed ((hangs r else Broken) ∷ []) v (request first count after) e in
       let w = went (wait_over s p elapsed) (λ late. taken (wish r late)) (request first count after) c.1 in
       let q : wish r w.by ≡ request first count after = cc w.gave in
       let k = wishes r w.by first count after q in

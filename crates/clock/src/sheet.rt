@@ -20,6 +20,7 @@ pub fn is_sound(sheet: Sheet) -> bool
     !sheet.timed || is_lawful(sheet.mean) && is_lawful(sheet.spread)
 }
 
+// By comparison and negation, as the scope has it.
 fn distance(mean: f64, sample: f64) -> f64
     ensures { result ≡ apart mean sample }
 {

@@ -45,8 +45,8 @@ lasts-so sheet (Measured floor ceiling) w s r e =
     let c = T_from_true (between floor v ceiling) (wait-between sheet floor ceiling s r) in
     let above = lt_of_lt_of_le (whole 0) floor v (and_l (lt (whole 0) floor) (between floor ceiling (whole 60000)) t)
     (and_l (le floor v) (le v ceiling) c) in
-    let within = le_trans v ceiling (whole 60000) (and_r (le floor v) (le v ceiling) c) (and_r (le floor ceiling) (le ceiling (whole 60000)) b)
-    in
+    let within = le_trans v ceiling (whole 60000) (and_r (le floor v) (le v ceiling) c)
+    (and_r (le floor ceiling) (le ceiling (whole 60000)) b) in
     let same : v ≡ w = cc in
     rw (← same) (lasts v above within)
 

@@ -13,4 +13,6 @@ returns-then-not-late c = search rules
 
 pub returns : goal.returns
 unfolding wish
-returns c = rw c.request.ensures (elim c.else-eq.branch [ else-eq-via-then-eq+else-not-late w ↦ search rules | else-eq-via-else-eq w ↦ search rules ])
+returns c =
+    rw c.request.ensures
+    (elim c.else-eq.branch [ else-eq-via-then-eq+else-not-late w ↦ search rules | else-eq-via-else-eq w ↦ search rules ])
