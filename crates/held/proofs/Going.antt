@@ -1,6 +1,6 @@
 -- One turn more of a loop over slots, told of the definitions: message after message, from a number on.
 -- Assumes nothing.
-use Prim.Native.Nat.{ℕ, zero, suc, ◌+◌, ◌-◌, ◌*◌, ◌%◌, ◌≤◌, ◌<◌}
+use Prim.Native.Nat.{ℕ, zero, suc, ◌+◌, ◌-◌, ◌*◌, ◌≤◌, ◌<◌}
 use mathlib.Core.Path.{◌≡◌, refl, ap, sym, ◌∙◌}
 use mathlib.Core.List.{List, ◌∷◌, ◌++◌}
 use mathlib.Core.Bool.{true, false}
@@ -20,9 +20,6 @@ use Rattle.held.specs.Releasing.{run, held_from, Fitting}
 use Rattle.held.proofs.Bitmap.{freed-add, freed-none}
 use Rattle.held.proofs.Hangs.{sound-fits, fits-at}
 use Rattle.held.proofs.Releases.{run-within, run-full, held-lean}
-
-pub slots-add : (m n : ℕ) → slot_of (m % 32 + n % 32) ≡ slot_of (m + n)
-slots-add m n = omega arith
 
 -- ---- one slot more falls free
 

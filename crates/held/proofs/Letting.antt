@@ -1,11 +1,11 @@
--- What is let go, told of the definition: a broken area, too little room, or the messages of the run.
+-- What is let go, told of the definition: nothing where nothing is held, or the messages of the run.
 -- Assumes nothing.
-use Prim.Native.Nat.{ℕ, ◌+◌, ◌≤◌, ◌<◌}
+use Prim.Native.Nat.{ℕ, ◌+◌, ◌≤◌}
 use mathlib.Core.Path.{◌≡◌, refl}
 use mathlib.Core.List.{List, []}
-use mathlib.Core.Bool.{true, false}
+use mathlib.Core.Bool.{true}
 use native.Mathlib.Omega.{arith}
-use borrow.Author.Tests.{le-leb, lt-leb}
+use borrow.Author.Tests.{le-leb}
 use lib.ListN.{length}
 use lib.Seq.{sets}
 use Rattle.blocks.specs.Blocks.{frames}
@@ -14,18 +14,9 @@ use Rattle.held.specs.Hanging.{sound}
 use Rattle.held.specs.Releasing.{run, held_from, released, releasing, Settled}
 use Rattle.held.proofs.Bitmap.{none-full}
 use Rattle.held.proofs.Releases.{length-held, released-none}
-use Rattle.wire.specs.Checks.{refused, taken}
-use Rattle.wire.specs.declared.refusal.Refusal.TheVariants.{Room, Broken}
+use Rattle.wire.specs.Checks.{taken}
 
 module _ (held : ℕ) (area : List ℕ) (m at : ℕ) (out : List ℕ) where
-  pub broken-area : sound held area ≡ false → Settled (releasing held area m at (length out)) at out (refused Broken) out
-  broken-area e = rw e (record { answer = refl; bytes = refl })
-
-  -- no room even for what stands before
-  pub no_room : sound held area ≡ true → length out < at → Settled (releasing held area m at (length out)) at out (refused Room) out
-  no_room e h = rw (e, lt-leb (at + length (frames (released held area m))) (length out) (omega arith))
-      (record { answer = refl; bytes = refl })
-
   -- nothing is held
   pub nothing-goes : sound held area ≡ true → held ≡ 0 → at ≤ length out
       → Settled (releasing held area m at (length out)) at out (taken (record { messages = 0; bytes = 0 })) out
@@ -35,11 +26,6 @@ module _ (held : ℕ) (area : List ℕ) (m at : ℕ) (out : List ℕ) where
       rw (e, none, le-leb (at + 0) (length out) (omega arith)) (record { answer = refl; bytes = refl })
 
   module _ (e : sound held area ≡ true) (k : ℕ) (q : k ≡ run 31 held m) where
-    pub too-little : length out < at + length (frames (held_from k area m))
-        → Settled (releasing held area m at (length out)) at out (refused Room) out
-    too-little h = rw (e, lt-leb (at + length (frames (released held area m))) (length out) (rw q at h))
-        (record { answer = refl; bytes = refl })
-
     pub lets_go : (bytes : ℕ) (left : List ℕ) → bytes ≡ length (frames (held_from k area m)) → at + bytes ≤ length out
         → left ≡ sets out at (frames (held_from k area m))
         → Settled (releasing held area m at (length out)) at out (taken (record { messages = k; bytes = bytes })) left

@@ -14,7 +14,6 @@ use lib.Dec.{eqb, leb}
 use Rattle.std.specs.Bool.{then_some}
 use Rattle.wire.proofs.Tests.{by-test}
 use Rattle.missing.proofs.Running.{same-ranges, skip-held, one-range}
-use Rattle.missing.proofs.Single.{held-within}
 
 module _ (so : ℕ → Bool) (next reach : ℕ) where
   pub one_more : (first last : ℕ) → LastOf so next reach first last
@@ -56,12 +55,6 @@ module _ (so : ℕ → Bool) (next reach : ℕ) where
         by-test (leb past reach)
         (λ e. rw e (record { within = leb-true past reach e; free = p.free; others = ap (drop 1) (on-to past p) }))
         (λ e. rw e (ap (drop 1) (on-to past p) ∙ none_left past (leb-false past reach e)))
-
--- the number after a range is held, and so is near
-pub held-near : (held next reach first last : ℕ) → LastOf (is_held held next) next reach first last → last < reach → last + 1 ≤ 31
-held-near held next reach first last l h =
-    let w = held-within held next (next + (last + 1)) (l.ends h) in
-    omega arith
 
 module _ (held next top : ℕ) where
   pub from_next : next ≤ top → missing held next top ≡ ranges_from (is_held held next) next (top - next) 0

@@ -3,22 +3,12 @@ use mathlib.Core.Bool.{true}
 use native.Mathlib.Omega.{arith}
 use Rattle.held.specs.Hanging.{sound}
 use Rattle.held.proofs.Going.{run_fits}
-use Rattle.held.proofs.Letting.{broken-area, too-little, lets_go, no_room, nothing-goes}
+use Rattle.held.proofs.Letting.{lets_go, nothing-goes}
 use Rattle.held.proofs.releasing.release.Goals.{Else-not-is_sound}
 use Rattle.held.proofs.releasing.release.Goals as goal
 
 sound-so : (c : Else-not-is_sound) → sound c.args.held c.args.area.now ≡ true
 sound-so c = sym c.is_sound.ensures ∙ c.if-not-is_sound.false
-
-pub returns-then-not-is_sound : goal.returns-then-not-is_sound
-returns-then-not-is_sound c =
-    let a = c.args in
-    broken-area a.held a.area.now a.number a.at a.out.now (sym c.is_sound.ensures ∙ c.if-not-is_sound.true)
-
-pub returns-then-out-at : goal.returns-then-out-at
-returns-then-out-at c =
-    let a = c.args in
-    no_room a.held a.area.now a.number a.at a.out.now (sound-so (goal.at.returns-then-out-at c).Else-not-is_sound) c.if-out-at.true
 
 pub returns-then-held-eq0 : goal.returns-then-held-eq0
 returns-then-held-eq0 c =
@@ -30,13 +20,6 @@ pub size-bytes-requires : goal.size-bytes-requires
 size-bytes-requires c =
     let a = c.args in
     rw c.run-messages.ensures.0 (run_fits a.held a.area.now a.number (sound-so (goal.at.size-bytes-requires c).Else-not-is_sound))
-
-pub returns-then-out-at-2 : goal.returns-then-out-at-2
-returns-then-out-at-2 c =
-    let a = c.args in
-    too-little a.held a.area.now a.number a.at a.out.now (sound-so (goal.at.returns-then-out-at-2 c).Else-not-is_sound)
-    c.run-messages.result c.run-messages.ensures.0
-    (omega (arith, c.if-out-at-2.true, c.if-out-at.false, c.size-bytes.ensures))
 
 pub lay-requires : goal.lay-requires
 lay-requires c =

@@ -1,5 +1,4 @@
-use Prim.Native.Nat.{ℕ, ◌+◌}
-use mathlib.Core.Path.{ap, sym, ◌∙◌}
+use mathlib.Core.Path.{sym, ◌∙◌}
 use Rattle.held.proofs.Bits.{set-fits}
 use Rattle.held.proofs.Bitmap.{power}
 use Rattle.held.proofs.slots.fill.Goals as goal
@@ -9,10 +8,3 @@ overflow_add-result c =
     let a = c.args in
     let free = sym c.is_full.ensures ∙ c.if-is_full.false in
     rw (power a.slot c.requires) (record { fits = set-fits 32 a.slot a.held c.ranges.held.fits c.requires free })
-
-pub returns-then-is_full : goal.returns-then-is_full
-returns-then-is_full c = rw (← c.is_full.ensures, c.if-is_full.true)
-
-pub returns-else-is_full : goal.returns-else-is_full
-returns-else-is_full c =
-    rw (← c.is_full.ensures, c.if-is_full.false) (ap (λ (x : ℕ). c.args.held + x) (power c.args.slot c.requires))
