@@ -22,7 +22,7 @@ pub struct Record {
     // The highest number known to be published.
     pub top: Sequence,
     pub ended: bool,
-    // The number last asked from, 0 if none.
+    // The number last asked from, 0 if none: no Option, since `hangs` and its laws speak of asked at most next.
     pub asked: Sequence,
     // Bit i is 1 where slot i of the held area is full.
     pub held: u32,
