@@ -31,14 +31,16 @@ module _ (n : ℕ) (p : ℕ → Bool) where
 
   decided : (r : Bool) → MatchBool r (AllWithin (λ i. p i ≡ true) all 0 (length all))
       ((k : ℕ) × (k < length all) × HoldsAt (λ i. p i ≡ false) all k) → r ≡ every n p
-  decided true h = sym (every-so n p (λ i l. rw (get_or-range_with_len 0 n i 0 l, zero-add) at (h i 0 (omega arith) (rw length-range_with_len l))))
+  decided true h =
+      sym (every-so n p (λ i l. rw (get_or-range_with_len 0 n i 0 l, zero-add) at (h i 0 (omega arith) (rw length-range_with_len l))))
   decided false h =
       let l = rw length-range_with_len at h.1 in
       sym (fails-at n p h.0 l (rw (get_or-range_with_len 0 n h.0 0 l, zero-add) at (h.2 0)))
 
   pub every-answer : {F : Type 0} {g : Mut F (ℕ × Unit {0}) Bool} (s u : Range ℕ) (f : F) (r : Bool)
       → ((xs : List ℕ) × (o : Option ℕ) × (j : F) × YieldsThen nat_range_steps s xs o u
-      × FoldsTo (λ p x q. Called g p (x, tt) true q) f xs j × MatchOption o (r ≡ true) (λ x. (r ≡ false) × ((h : F) × Called g j (x, tt) false h)))
+      × FoldsTo (λ p x q. Called g p (x, tt) true q) f xs j
+      × MatchOption o (r ≡ true) (λ x. (r ≡ false) × ((h : F) × Called g j (x, tt) false h)))
       → s ≡ record { start = 0; end = n }
       → ((x : ℕ) (q : F) → Called g f (x, tt) true q → (q ≡ f) × (p x ≡ true))
       → ((x : ℕ) (q : F) → Called g f (x, tt) false q → p x ≡ false)

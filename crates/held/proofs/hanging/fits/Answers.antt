@@ -7,4 +7,5 @@ use Rattle.held.proofs.hanging.fits.Goals as goal
 pub returns : goal.returns
 returns c =
     let a = c.args in
-    every-answer 32 (fits a.held a.area.now) _ _ _ _ c.all.ensures.ran refl (λ x q k. search (rules, tests)) (λ x q k. search (rules, tests))
+    every-answer 32 (fits a.held a.area.now) _ _ _ _ c.all.ensures.ran refl
+    (λ x q k. search (rules, tests)) (λ x q k. search (rules, tests))

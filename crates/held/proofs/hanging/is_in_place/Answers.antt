@@ -13,4 +13,5 @@ pub returns : goal.returns
 unfolding in_place
 returns c =
     let a = c.args in
-    every-answer 32 (placed a.held a.next a.top) _ _ _ _ c.all.ensures.ran refl (λ x q k. search (rules, tests)) (λ x q k. search (rules, tests))
+    every-answer 32 (placed a.held a.next a.top) _ _ _ _ c.all.ensures.ran refl
+    (λ x q k. search (rules, tests)) (λ x q k. search (rules, tests))
