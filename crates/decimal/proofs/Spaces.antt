@@ -1,8 +1,8 @@
 -- Characters that are spaces, told by parts: a part and what follows it, and parts that overlap.
 -- Assumes nothing.
-use Rattle.std.proofs.Common.{◌≡◌, ℕ, suc, ◌+◌, ◌-◌, ◌≤◌, true, false, ◌&&◌, eqb, List, [], ◌∷◌, ◌++◌, length, get_or, take, drop, sym}
-use Rattle.std.proofs.Common.{refl, ap, ◌∙◌, add-one, arith, drop-cons, drop-drop, take-add}
-use mathlib.Core.Bool.{and-true}
+use Rattle.std.proofs.Common.{◌≡◌, ℕ, suc, ◌+◌, ◌-◌, ◌<◌, ◌≤◌, Bool, true, false, ◌&&◌, eqb, List, [], ◌∷◌, ◌++◌, length, get_or, take, drop, sym}
+use Rattle.std.proofs.Common.{refl, ap, ◌∙◌, add-one, arith, drop-cons, drop_of_length-le, take-add}
+use mathlib.Core.Bool.{and-true, and_assoc}
 use Rattle.wire.specs.Checks.{◌is◌}
 use Rattle.wire.proofs.Tests.{by-test, and_left}
 use Rattle.text.specs.Text.{blank}
@@ -26,11 +26,13 @@ overlap s i w n m e l f =
     let front : blank (take i s) ≡ true = and_left (blank (take i s)) (blank (take (m - i) (drop i s))) both in
     rw (cut s i w n e, front)
 
--- ---- two characters, and two parts alike
+-- ---- one by one: w says whether there were only spaces before place i
 
-pub pair : (s : List ℕ) (i : ℕ) → i + 2 ≤ length s → (get_or s i 0 is 32) && (get_or s (i + 1) 0 is 32) ≡ blank (take 2 (drop i s))
-unfolding blank
-pair s i h = rw (drop-cons s i 0 (omega arith), drop-cons s (suc i) 0 (omega arith), add-one i, and-true)
+module _ (s : List ℕ) (i : ℕ) (w : Bool) where
+  pub blank-step : i < length s → w && (get_or s i 0 is 32) && blank (drop (i + 1) s) ≡ w && blank (drop i s)
+  unfolding blank
+  blank-step h = rw (drop-cons s i 0 h, add-one) (and_assoc w (get_or s i 0 is 32) (blank (drop (suc i) s)))
 
-pub halves : (s : List ℕ) (i m : ℕ) → blank (take (m + m) (drop i s)) ≡ blank (take m (drop i s)) && blank (take m (drop (i + m) s))
-halves s i m = rw (take-add m m (drop i s), drop-drop m i s) (blank-append (take m (drop i s)) (take m (drop (i + m) s)))
+  pub blank-end : length s ≤ i → w ≡ w && blank (drop i s)
+  unfolding blank
+  blank-end h = rw (drop_of_length-le s h) (sym (and-true w))

@@ -90,49 +90,38 @@ fn twenty(d: u64, n: u64) -> Result<u64, Fault>
     }
 }
 
-fn two_spaces(s: &[u8], i: usize) -> bool
-    requires { i + 2 ≤ length s.now }
-    ensures { result ≡ blank (take 2 (drop i s.now)) }
+// Nothing but spaces. Every byte is looked at, so that the compiler makes one test of the eight or four that it is asked for.
+fn are_spaces(s: &[u8]) -> bool
+    ensures { result ≡ blank s.now }
 {
-    (s[i] == b' ') & (s[i + 1] == b' ')
-}
-
-fn four_spaces(s: &[u8], i: usize) -> bool
-    requires { i + 4 ≤ length s.now }
-    ensures { result ≡ blank (take 4 (drop i s.now)) }
-{
-    two_spaces(s, i) & two_spaces(s, i + 2)
-}
-
-// The compiler makes one test of the eight.
-fn eight_spaces(s: &[u8], i: usize) -> bool
-    requires { i + 8 ≤ length s.now }
-    ensures { result ≡ blank (take 8 (drop i s.now)) }
-{
-    four_spaces(s, i) & four_spaces(s, i + 4)
+    let mut all = true;
+    for &b in s {
+        all &= b == b' ';
+    }
+    all
 }
 
 // The first n of twenty characters are spaces: four, then eight and eight of them, the last ones up to place n.
-fn are_spaces(s: &[u8], n: usize) -> bool
+fn begins_blank(s: &[u8], n: usize) -> bool
     requires { (length s.now ≡ 20) × (n ≤ 20) }
     ensures { result ≡ blank (take n s.now) }
 {
     if n < 4 {
-        return text::is_blank(&s[..n]);
+        return are_spaces(&s[..n]);
     }
-    if !four_spaces(s, 0) {
+    if !are_spaces(&s[..4]) {
         return false;
     }
     if n < 8 {
-        return four_spaces(s, n - 4);
+        return are_spaces(&s[n - 4..n]);
     }
     if n < 12 {
-        return eight_spaces(s, n - 8);
+        return are_spaces(&s[n - 8..n]);
     }
-    if !eight_spaces(s, 4) {
+    if !are_spaces(&s[4..12]) {
         return false;
     }
-    eight_spaces(s, n - 8)
+    are_spaces(&s[n - 8..n])
 }
 
 // Any characters, read. Where there are no digits their sum is 0 too: that is told as blank, never as a number.
@@ -148,7 +137,7 @@ pub fn read(s: &[u8]) -> Result<u64, Fault>
         return twenty(first, tail.value);
     }
     let from = 20 - tail.count;
-    if !are_spaces(s, from) {
+    if !begins_blank(s, from) {
         return Err(Fault::Misshapen);
     }
     if tail.count == 0 {

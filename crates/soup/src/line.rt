@@ -16,10 +16,8 @@ pub fn is_unbroken(s: &[u8]) -> bool
     ensures { result ≡ unbroken s.now }
 {
     let mut whole = true;
-    let mut i = 0;
-    while i < s.len() {
-        whole = whole & (s[i] != b'\n');
-        i += 1;
+    for &b in s {
+        whole &= b != b'\n';
     }
     whole
 }

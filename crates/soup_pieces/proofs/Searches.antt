@@ -36,7 +36,7 @@ unfolding slice
 part-is from most s h =
     rw (take-add from most s) (drop_at (take from s) (take most (drop from s)) from (length-take-le from s (omega arith)))
 
--- ---- two bytes, and two parts alike
+-- ---- two parts
 
 unbroken-append : (a b : List ℕ) → unbroken (a ++ b) ≡ unbroken a && unbroken b
 unfolding unbroken
@@ -46,15 +46,6 @@ unbroken-append (c ∷ a) b = by-test (eqb c 10) (λ t. rw t) (λ t. rw t (unbro
 -- both parts of an unbroken stretch are unbroken
 pub parts_none : (a b : List ℕ) → unbroken (a ++ b) ≡ true → (unbroken a ≡ true) × (unbroken b ≡ true)
 parts_none a b u = both (unbroken a) (unbroken b) (sym (unbroken-append a b) ∙ u)
-
-pub pair : (s : List ℕ) (i : ℕ) → i + 2 ≤ length s
-    → not (eqb (get_or s i 0) 10) && not (eqb (get_or s (i + 1) 0) 10) ≡ unbroken (take 2 (drop i s))
-unfolding unbroken
-pair s i h = rw (drop-cons s i 0 (omega arith), drop-cons s (suc i) 0 (omega arith), add-one i, and-true)
-
-pub halves : (s : List ℕ) (i m : ℕ)
-    → unbroken (take (m + m) (drop i s)) ≡ unbroken (take m (drop i s)) && unbroken (take m (drop (i + m) s))
-halves s i m = rw (take-add m m (drop i s), drop-drop m i s) (unbroken-append (take m (drop i s)) (take m (drop (i + m) s)))
 
 -- ---- behind the first bytes
 

@@ -1,29 +1,9 @@
 // The search for a linefeed: eight bytes at a time while none is among them, then one by one.
-ghost use Rattle.std.specs.Prelude.{◌≡◌, true, ◌+◌, ◌≤◌, length, take, drop};
+ghost use Rattle.std.specs.Prelude.{◌≡◌, true, ◌+◌, ◌≤◌, length};
 ghost use Rattle.soup.specs.Read.{unbroken};
 ghost use Rattle.soup_pieces.specs.Searching.{index_of, slice};
 
-fn are_two_unbroken(s: &[u8], i: usize) -> bool
-    requires { i + 2 ≤ length s.now }
-    ensures { result ≡ unbroken (take 2 (drop i s.now)) }
-{
-    (s[i] != b'\n') & (s[i + 1] != b'\n')
-}
-
-fn are_four_unbroken(s: &[u8], i: usize) -> bool
-    requires { i + 4 ≤ length s.now }
-    ensures { result ≡ unbroken (take 4 (drop i s.now)) }
-{
-    are_two_unbroken(s, i) & are_two_unbroken(s, i + 2)
-}
-
-// The compiler makes one test of the eight.
-fn are_eight_unbroken(s: &[u8], i: usize) -> bool
-    requires { i + 8 ≤ length s.now }
-    ensures { result ≡ unbroken (take 8 (drop i s.now)) }
-{
-    are_four_unbroken(s, i) & are_four_unbroken(s, i + 4)
-}
+use soup::line::is_unbroken;
 
 // A place behind the first eights without a linefeed.
 fn behind_eights(s: &[u8], from: usize, to: usize) -> usize
@@ -32,7 +12,7 @@ fn behind_eights(s: &[u8], from: usize, to: usize) -> usize
 {
     let mut at = from;
     while 8 <= to - at {
-        if !are_eight_unbroken(s, at) {
+        if !is_unbroken(&s[at..at + 8]) {
             return at;
         }
         at += 8;

@@ -23,21 +23,21 @@ returns-then-tail-first c =
     c.twenty.ensures ∙ sym (of-twenty s _ _ c.if-s-ne20.false (c.figure-first.ensures.0 ∙ le-leb _ 9 d) (c.figure-first.ensures.1 d)
     (rw k at c.tail_of-tail.ensures.1) (rw k at c.tail_of-tail.ensures.2))
 
-pub returns-then-not-are_spaces : goal.returns-then-not-are_spaces
-returns-then-not-are_spaces c =
+pub returns-then-not-begins_blank : goal.returns-then-not-begins_blank
+returns-then-not-begins_blank c =
     let s = c.args.s.now in
     let stop = stops s _ c.figure-first.result c.tail_of-tail.ensures.0 c.tail_of-tail.ensures.3 c.figure-first.ensures.0
     c.if-tail-first.false in
     sym (misshapen s _ c.if-s-ne20.false c.tail_of-tail.ensures.0 c.tail_of-tail.ensures.1 stop
-    (failed c.are_spaces.ensures c.if-not-are_spaces.true-raw))
+    (failed c.begins_blank.ensures c.if-not-begins_blank.true-raw))
 
 pub returns-then-tail-eq0 : goal.returns-then-tail-eq0
 returns-then-tail-eq0 c =
     sym (none _ _ c.if-s-ne20.false c.tail_of-tail.ensures.0 c.tail_of-tail.ensures.1
-    (held c.are_spaces.ensures c.if-not-are_spaces.false-raw) c.if-tail-eq0.true)
+    (held c.begins_blank.ensures c.if-not-begins_blank.false-raw) c.if-tail-eq0.true)
 
 pub returns : goal.returns
 returns c =
     ap Ok c.tail_of-tail.ensures.2 ∙ sym (number _ _ c.if-s-ne20.false c.tail_of-tail.ensures.0 c.tail_of-tail.ensures.1
-    (held c.are_spaces.ensures c.if-not-are_spaces.false-raw)
+    (held c.begins_blank.ensures c.if-not-begins_blank.false-raw)
     (pos_of_ne-zero c.if-tail-eq0.false))

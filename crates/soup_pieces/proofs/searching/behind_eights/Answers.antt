@@ -1,4 +1,5 @@
 -- `behind_eights` meets its contract: eight bytes at a time, no linefeed lies behind.
+use native.Mathlib.Nat.{add-sub_cancel_left}
 use native.Mathlib.Omega.{arith}
 use Rattle.wire.proofs.Tests.{held}
 use Rattle.soup_pieces.proofs.Searches.{unbroken-none-yet, eight-more}
@@ -10,11 +11,8 @@ loop-at-init c = (omega arith, omega arith, unbroken-none-yet c.args.s.now c.arg
 pub overflow_sub-to : goal.overflow_sub-to
 overflow_sub-to c = omega arith
 
-pub are_eight_unbroken-requires : goal.are_eight_unbroken-requires
-are_eight_unbroken-requires c = omega arith
-
-pub returns-then-not-are_eight_unbroken : goal.returns-then-not-are_eight_unbroken
-returns-then-not-are_eight_unbroken c = c.loop-at.invariant
+pub returns-then-not-is_unbroken : goal.returns-then-not-is_unbroken
+returns-then-not-is_unbroken c = c.loop-at.invariant
 
 pub overflow_add-at : goal.overflow_add-at
 overflow_add-at c = omega arith
@@ -27,7 +25,7 @@ loop-at-preserved c = (
   omega arith,
   omega arith,
   eight-more c.args.s.now c.args.from c.loop-at.at c.args.to c.loop-at.invariant.0 (omega arith) c.requires.1
-      c.loop-at.invariant.2 (held c.are_eight_unbroken.ensures c.if-not-are_eight_unbroken.false-raw),
+      c.loop-at.invariant.2 (rw add-sub_cancel_left at (held c.is_unbroken.ensures c.if-not-is_unbroken.false-raw)),
 )
 
 pub returns : goal.returns
