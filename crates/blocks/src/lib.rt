@@ -42,6 +42,7 @@ pub fn count_upstream(s: &[u8]) -> Result<usize, Refusal>
 {
     let mut at = 0;
     let mut count = 0;
+    // From block to block: how many turns there are is what is asked.
     while at < s.len() {
         let block = next(s, at)?;
         if block.length == 0 {

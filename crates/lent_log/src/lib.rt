@@ -15,7 +15,8 @@ pub const LONGEST_MESSAGE: usize = 1463;
 // The most messages that a log may have.
 pub const MOST_MESSAGES: u64 = 4294967294;
 
-// How many messages there are, where their blocks end, and whether the end was declared.
+// How many messages there are, where their blocks end, and whether the end was declared. The bytes stand beside it: C lends them, and
+// the desk has no heap.
 #[derive(Clone, Copy, Debug, PartialEq, Eq)]
 pub struct Log {
     pub count: u64,
@@ -30,6 +31,7 @@ fn tally(s: &[u8]) -> Result<usize, Refusal>
     let mut at = 0;
     let mut count = 0;
     let mut small = true;
+    // From block to block: how many turns there are is what is asked.
     while at < s.len() {
         let block = blocks::next(s, at)?;
         small &= block.length <= LONGEST_MESSAGE;

@@ -7,7 +7,7 @@ use wire::kinds::{Sequence, SessionId};
 // Those that the type lacks are 0.
 #[derive(Clone, Copy, Debug, PartialEq, Eq)]
 pub struct Fields {
-    // The type byte of the wire.
+    // The type byte of the wire: a number, since a writer may be given any, and refuses an unknown one in its place, after a long body.
     pub kind: u8,
     // A mode, a reject code, a token's type.
     pub letter: u8,

@@ -14,7 +14,8 @@ use wire::fields::{get2, get4, get8};
 use wire::kinds::{Sequence, SessionId};
 use wire::refusal::Refusal;
 
-// What a packet says: its fields, and where its token or payload begins and how many bytes it has, both 0 where the type has neither.
+// What a packet says: its fields, and where its token or payload begins and how many bytes it has, both 0 where the type
+// has neither, as the C interface hands them on.
 #[derive(Clone, Copy, Debug, PartialEq, Eq)]
 pub struct Tcp {
     pub fields: Fields,

@@ -18,7 +18,7 @@ use wire::refusal::Refusal;
 // What is handed from call to call, with the buffer.
 #[derive(Clone, Copy)]
 pub struct Pieces {
-    // How many bytes of an unfinished packet stand at the buffer's start.
+    // How many bytes of an unfinished packet stand at the buffer's start: C lends the buffer beside it.
     pub kept: usize,
     // The rest of an overlong packet is being dropped.
     pub dropping: bool,

@@ -183,6 +183,7 @@ fn find_message(d: &[u8], place: usize) -> Result<Placed, Refusal>
     ensures { result ≡ message_in d.now place told_by placed_of (end_at d.now place) }
 {
     let mut at = 0;
+    // From block to block: only their own lengths tell how many there are before the place.
     while at < place {
         at = blocks::next(d, at)?.next;
     }
