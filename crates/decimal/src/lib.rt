@@ -63,16 +63,14 @@ fn tail_of(s: &[u8]) -> Tail
 {
     let powers = POWERS;
     let mut value: u64 = 0;
-    let mut k = 0;
-    while k < 19 {
+    for k in 0..19 {
         let d = figure(s[19 - k]);
         if 9 < d {
             return Tail { count: k, value };
         }
         value += d * powers[k];
-        k += 1;
     }
-    Tail { count: k, value }
+    Tail { count: 19, value }
 }
 
 // The digit d in front of nineteen that come to n: only here can the sum be over 2^64-1.
@@ -162,6 +160,7 @@ pub fn characters(n: u64) -> [u8; 20]
     let mut s = [b' '; 20];
     let mut rest = n / 10;
     s[19] = last_digit(n, rest);
+    // No `for` over the places: it took a fifth more instructions, since it asks at each digit too if a place is left.
     let mut i = 19;
     while rest != 0 {
         let tenth = rest / 10;

@@ -1,5 +1,5 @@
 -- `tail_of` keeps, turn by turn: the last k characters are digits, and what they come to is counted.
-use Rattle.std.proofs.Common.{get_or, ◌∙◌, arith}
+use Rattle.std.proofs.Common.{◌≡◌, get_or, ◌∙◌, arith}
 use borrow.Author.Tests.{lt-leb}
 use Rattle.decimal.proofs.Powers.{powers, power_at}
 use Rattle.decimal.proofs.Ends.{none_yet, Turn, turn}
@@ -17,21 +17,9 @@ this-turn c =
 pub loop-k-init : goal.loop-k-init
 loop-k-init c = let e = none_yet c.args.s.now c.requires in (omega arith, e.0, e.1)
 
-pub overflow_sub-k : goal.overflow_sub-k
-overflow_sub-k c = omega arith
-
-pub bounds-s-k : goal.bounds-s-k
-bounds-s-k c = omega arith
-
 pub returns-then-d-gt9 : goal.returns-then-d-gt9
 returns-then-d-gt9 c =
     (c.loop-k.invariant.0, c.loop-k.invariant.1, c.loop-k.invariant.2, λ h. c.figure-d.ensures.0 ∙ lt-leb _ 9 c.if-d-gt9.true)
-
-pub offset_bounds-powers-k : goal.offset_bounds-powers-k
-offset_bounds-powers-k c = omega arith
-
-pub bounds-powers-k : goal.bounds-powers-k
-bounds-powers-k c = omega arith
 
 pub overflow_mul-value : goal.overflow_mul-value
 overflow_mul-value c = omega (arith, (this-turn c).fits)
@@ -39,14 +27,10 @@ overflow_mul-value c = omega (arith, (this-turn c).fits)
 pub overflow_add-value : goal.overflow_add-value
 overflow_add-value c = omega (arith, (this-turn c).fits)
 
-pub overflow_add-k : goal.overflow_add-k
-overflow_add-k c = omega arith
-
-pub loop-k-smaller : goal.loop-k-smaller
-loop-k-smaller c = omega arith
-
 pub loop-k-preserved : goal.loop-k-preserved
 loop-k-preserved c = let u = this-turn c in (omega arith, u.more, u.sum)
 
 pub returns : goal.returns
-returns c = (c.loop-k.invariant.0, c.loop-k.invariant.1, c.loop-k.invariant.2, λ h. absurd (omega arith))
+returns c =
+    let all : c.loop-k.k ≡ 19 = omega arith in
+    (omega arith, rw all at c.loop-k.invariant.1, rw all at c.loop-k.invariant.2, λ h. absurd (omega arith))

@@ -4,6 +4,3 @@ use Rattle.decimal.proofs.tail_of.Given as goal
 
 abbrev pub invariant-loop-k : goal.invariant-loop-k
 invariant-loop-k l = (l.k ≤ 19) × (digits (drop (20 - l.k) l.s) ≡ true) × (l.value ≡ spelt (drop (20 - l.k) l.s))
-
-abbrev pub decreases-loop-k : goal.decreases-loop-k
-decreases-loop-k l = 19 - l.k
