@@ -20,7 +20,7 @@ use Rattle.flat_record.specs.Keeping.{known_record, flat_range, standing_answer,
 use Rattle.flat_record.specs.declared.keeping.FlatRecord.{FlatRecord}
 
 -- a range that is there, or noughts where there is none
-flat-at : (rs : List Range) (place : ℕ) → flat_range (taken (slice_get rs place)) ≡ record {
+pub flat-at : (rs : List Range) (place : ℕ) → flat_range (taken (slice_get rs place)) ≡ record {
   refusal = 0;
   first = (rs at place).first.0;
   last = (rs at place).last.0;

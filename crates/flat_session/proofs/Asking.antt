@@ -6,7 +6,7 @@ use mathlib.Core.List.{List, [], append-nil}
 use native.Mathlib.Nat.{mod-eq_of_lt}
 use native.Mathlib.Omega.{arith}
 use lib.Ieee.{Float}
-use Rattle.wire.specs.Checks.{Verdict, refused, taken}
+use Rattle.wire.specs.Checks.{◌told_by◌, Verdict, refused, taken}
 use Rattle.ufo_up.specs.Up.{request}
 use Rattle.ufo_up_write.specs.WriteUp.{reply}
 use Rattle.clock.specs.declared.sheet.Sheet.{Sheet}

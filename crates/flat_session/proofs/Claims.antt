@@ -5,6 +5,7 @@ use Prim.Native.Nat.{ℕ}
 use mathlib.Core.Path.{◌≡◌}
 use mathlib.Core.List.{List}
 use native.Mathlib.Omega.{arith}
+use Rattle.wire.specs.declared.refusal.Refusal.TheVariants.{NotForRecord}
 use Rattle.wire.specs.Checks.{taken}
 use Rattle.names.specs.Names.{name_of}
 use Rattle.record.specs.Record.{opening}

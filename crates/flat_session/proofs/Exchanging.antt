@@ -5,7 +5,8 @@ use mathlib.Core.Path.{◌≡◌, refl}
 use mathlib.Core.List.{List}
 use native.Mathlib.Nat.{mod-eq_of_lt}
 use native.Mathlib.Omega.{arith}
-use Rattle.wire.specs.Checks.{Verdict, refused, taken}
+use Rattle.taking.specs.Taking.{taking}
+use Rattle.wire.specs.Checks.{◌told_by◌, Verdict, refused, taken}
 use Rattle.wire.proofs.Tests.{impossible}
 use Rattle.clock.specs.declared.sheet.Sheet.{Sheet}
 use Rattle.lend.specs.Answer.{answer_reply}
@@ -28,7 +29,7 @@ use Rattle.flat_session.proofs.Asking.{ask-left}
 use Rattle.flat_session.proofs.EachStep.{on, steps-left}
 
 -- an answer that says to request something
-wants : (given : FlatRecord) (v : Verdict Wish) (x : FlatAsked) → x ≡ flat_asked given (asked_of v) → x.what ≡ 2
+wants : (given : FlatRecord) (v : Verdict Wish) (x : FlatAsked) → x ≡ flat_asked given (v told_by asked_of) → x.what ≡ 2
     → (after : Record) × (v ≡ taken (wanted x.first x.count after))
 wants given (refused n) x e z = impossible cc
 wants given (taken nothing) x e z = impossible cc

@@ -5,7 +5,7 @@ use mathlib.Core.Path.{◌≡◌, refl}
 use mathlib.Core.List.{List}
 use lib.ListN.{length}
 use Rattle.wire.specs.Fields.{Bytes}
-use Rattle.wire.specs.Checks.{◌is◌, Verdict, refused, taken}
+use Rattle.wire.specs.Checks.{Verdict, refused, taken}
 use Rattle.names.specs.Names.{name_of}
 use Rattle.held.specs.Slots.{area_size}
 use Rattle.record.specs.Record.{opening}
@@ -26,7 +26,7 @@ pub opened-left : (name lent area : List ℕ) → Bytes lent → area_size ≤ l
     → ((h : Held) (s : State) → Reached s → Holds h s → left h) → LeavesOpened name lent area left
 opened-left name lent area b l left k κs a x e g p z = by (opening (name_of name)) refl (opens name κs a x e g p) where
   by : (v : Verdict Record) → opening (name_of name) ≡ v → Opens x v → left (begin lent area x.opened)
-  by (refused why) q o =      never-nought why (rw o at z)
+  by (refused why) q o = never-nought why (rw o at z)
   by (taken kept) q o =
       k _ (starts lent area kept) (record {
         lent = lent;

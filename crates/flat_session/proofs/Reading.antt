@@ -7,7 +7,7 @@ use mathlib.Core.Logic.{inl, inr}
 use mathlib.Core.Bool.{false}
 use borrow.Author.Tests.{eqb-false}
 use lib.ListN.{length}
-use Rattle.wire.specs.Checks.{◌is◌, Verdict, refused, taken}
+use Rattle.wire.specs.Checks.{◌told_by◌, ◌is◌, Verdict, refused, taken}
 use Rattle.ufo.specs.Down as ufo
 use Rattle.session.specs.Promise.{LoginAnswer, accepted, rejected}
 use Rattle.flat_packet.specs.declared.Read.{Read}
@@ -18,7 +18,7 @@ use Rattle.flat_session.specs.Promise.{AnswersLogin}
 other : {C : Type 0} (kind : ℕ) → (kind is 69) ≡ false → kind ≡ 69 → C
 other kind f e = absurd (eqb-false kind 69 f e)
 
-is-end : (size : ℕ) (v : Verdict ufo.Packet) (x : Read) → x ≡ flat_down size (ufo.down_of v) → x.packet.kind ≡ 69
+is-end : (size : ℕ) (v : Verdict ufo.Packet) (x : Read) → x ≡ flat_down size (v told_by ufo.down_of) → x.packet.kind ≡ 69
     → v ≡ taken (ufo.end x.packet.number)
 is-end size (refused n) x e k = other 0 refl (rw e at k)
 is-end size (taken (ufo.accept session next)) x e k = other 65 refl (rw e at k)

@@ -6,13 +6,13 @@ use mathlib.Core.List.{List, [], ◌∷◌, ◌++◌}
 use native.Mathlib.Nat.{mod-eq_of_lt}
 use lib.ListN.{length}
 use Rattle.wire.specs.Fields.{Bytes}
-use Rattle.wire.specs.Checks.{Verdict, refused, taken}
+use Rattle.wire.specs.Checks.{◌told_by◌, Verdict, refused, taken}
 use Rattle.blocks.specs.Blocks.{end_at}
-use Rattle.ufo_up.specs.Up.{Message, login, request, unsequenced, heartbeat, logout, FitMessage, FitAll, read_up, up_of, upstream_of}
+use Rattle.ufo_up.specs.Up.{Message, login, request, unsequenced, heartbeat, logout, FitMessage, FitAll, read_up, up_of}
 use Rattle.ufo_up.proofs.Exact.{read-is-written}
 use Rattle.ufo_up.proofs.UpInTurn.{InTurn, in-turn}
 use Rattle.session.specs.Session.{State, to_message, to_each, to_packet}
-use Rattle.flat_ufo_up.specs.Reading.{flat_up, flat_upstream, up_read}
+use Rattle.flat_ufo_up.specs.Reading.{flat_message, flat_upstream, up_read}
 use Rattle.flat_session.specs.Face.{Held, Holds, LeavesAnswered, LeavesMessage, LeavesEach}
 use Rattle.flat_session.proofs.NeverNought.{datagram-left}
 
@@ -28,7 +28,7 @@ module _ (h : Held) (s : State) (i : Holds h s) where
   message-left : (room next : ℕ) (more : List (List ℕ)) (on : ℕ → (List (List ℕ) → Type 0) → Type 0)
       → ((left : List (List ℕ) → Type 0) → left more → on next left)
       → (m : Message) → FitMessage m → (left : List (List ℕ) → Type 0) → left (to_message s room m ++ more)
-      → LeavesMessage h room (flat_up (up_of next (taken m))).packet on left
+      → LeavesMessage h room (flat_message (up_of next m) next).packet on left
   message-left room next more on goes (login user password session) f left l = goes left l
   message-left room next more on goes (request first count) f left l =
       rw (mod-eq_of_lt f.1)
@@ -50,6 +50,6 @@ module _ (h : Held) (s : State) (i : Holds h s) where
   unfolding to_packet
   packet-left room d b left l = by (read_up d) refl l where
     by : (v : Verdict (List Message)) → read_up d ≡ v → left (to_packet s room v)
-        → LeavesEach h room d (flat_upstream (v told_by upstream_of)).packet.count 0 left
+        → LeavesEach h room d (flat_upstream (v told_by length)).packet.count 0 left
     by (refused n) e l = l
     by (taken ms) e l = each_left room d ms 0 left (in-turn d b ms e) (read-is-written d b ms e).0.all l

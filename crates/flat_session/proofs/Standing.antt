@@ -7,7 +7,8 @@ use mathlib.Core.Logic.{inl, inr}
 use mathlib.Core.Bool.{true, false}
 use native.Mathlib.Omega.{arith}
 use lib.ListN.{length}
-use Rattle.wire.specs.Checks.{Verdict, refused, taken, ◌else◌}
+use Rattle.std.specs.Prelude.{slice_get}
+use Rattle.wire.specs.Checks.{◌told_by◌, Verdict, refused, taken, ◌else◌}
 use Rattle.wire.specs.declared.refusal.Refusal.TheVariants.{Broken}
 use Rattle.wire.proofs.Checks.{all-passed, taken-same}
 use Rattle.missing.specs.Missing.{◌to◌, ◌at◌}
@@ -24,6 +25,7 @@ use Rattle.session.proofs.EveryStep.{inv, hung-record}
 use Rattle.session.proofs.Standing.{begins-at-next}
 use Rattle.session.proofs.Claims.{never-early}
 use Rattle.flat_record.specs.Keeping.{flat_standing}
+use Rattle.flat_record.proofs.Ranges.{flat-at}
 use Rattle.flat_record.specs.declared.keeping.FlatStanding.{FlatStanding}
 use Rattle.flat_record.proofs.Complete.{complete-exactly-if}
 use Rattle.flat_session.specs.Header.{hp-standing-of, hp-missing-range}
@@ -84,7 +86,8 @@ module _ (h : Held) (s : State) (i : Holds h s) where
   stands v q κs a x e g p = rw (p, g, i.kept, q) (as-it-stands v)
 
   pub ranges : (v : Standing) → standing s.kept ≡ taken v → (k : ℕ) → hp-missing-range h.kept k (λ x. Ranges x v k)
-  ranges v q k κs a x e g p = rw (p, g.0, g.1, i.kept, range_at_lem s.kept v q k) (record { refusal = refl; first = refl; last = refl })
+  ranges v q k κs a x e g p =
+      rw (p, g.0, g.1, i.kept, range_at_lem s.kept v q k, flat-at (ranges_of v) k) (record { refusal = refl; first = refl; last = refl })
 
   -- complete is said only with the whole of a log that has ended
   pub complete-so : Reached s → NeverEarly h

@@ -6,7 +6,8 @@ use mathlib.Core.List.{List, append-nil}
 use native.Mathlib.Omega.{arith}
 use lib.ListN.{length, take, drop}
 use lib.Seq.{take-append_seam}
-use Rattle.wire.specs.Checks.{Verdict, refused, taken}
+use Rattle.wire.specs.declared.refusal.Refusal.{Refusal}
+use Rattle.wire.specs.Checks.{◌told_by◌, Verdict, refused, taken}
 use Rattle.wire.proofs.Checks.{not-both}
 use Rattle.blocks.specs.Blocks.{frames}
 use Rattle.blocks.proofs.Frames.{short-frames}
@@ -22,8 +23,8 @@ use Rattle.flat_session.proofs.Visiting.{visited-left}
 
 -- the answer is the verdict's, and a refusal leaves all as it was
 pub record TakenAs (h : Held) (v : Verdict Taking) (x : FlatTaken) (g : Held) : Type 0 where
-  pub answer : x ≡ flat_taken h.kept (taken_of v)
-  pub same : (n : ℕ) → v ≡ refused n → g ≡ h
+  pub answer : x ≡ flat_taken h.kept (v told_by taken_of)
+  pub same : (why : Refusal) → v ≡ refused why → g ≡ h
 
 module _ {s : State} (r : Reached s) (h : Held) (i : Holds h s) (d : List ℕ) (m : d among s.down) (room : ℕ) where
   -- The verdict decides: a refusal leaves all as it was; what is taken is framed at the output's start, and visited block by block it is

@@ -2,6 +2,7 @@
 -- which state of `session` that is; Claims shows that whatever it does is what `session` does.
 -- Assumes nothing.
 use Rattle.std.specs.Prelude.{ℕ, zero, suc, ◌^◌, ◌%◌, ◌≡◌, List, [], ◌∷◌, ◌++◌, cond, Float, length, take, drop, if◌then◌else◌}
+use Rattle.wire.specs.Refusals.{number_of}
 use Rattle.wire.specs.Fields.{Bytes}
 use Rattle.wire.specs.Checks.{◌is◌, Verdict, refused, taken}
 use Rattle.names.specs.Names.{name_bytes}
