@@ -1,6 +1,7 @@
 // Timed answers, waiting and silence.
 #![tactic(auto)]
 
+use book_lines::line::Line;
 use book_lines::numbers;
 use book_page::{decimals, page};
 use clock::patience::Patience;
@@ -31,8 +32,11 @@ fn timed(rt: &impl Print, sheet: &mut Sheet, sample: f64) -> io::Result<()> {
     }
 }
 
-// Samples, of two bytes each.
+// Three samples, of two bytes each.
 pub fn clock(rt: &impl Print, d: &[u8]) -> io::Result<()> {
+    let Some(d) = d.get(..6) else {
+        return Ok(());
+    };
     let mut sheet = Sheet {
         mean: 0.0,
         spread: 0.0,
@@ -45,14 +49,13 @@ pub fn clock(rt: &impl Print, d: &[u8]) -> io::Result<()> {
     Ok(())
 }
 
-// The rule that a text begins with: `never`, `fixed` and a number, or `measured` and two.
-pub fn rule(text: &str) -> Patience {
-    if text.starts_with("fixed") {
-        Patience::Fixed(numbers::fraction(text, 0))
-    } else if text.starts_with("measured") {
-        Patience::Measured(numbers::fraction(text, 0), numbers::fraction(text, 1))
-    } else {
-        Patience::Never
+// The rule that a place of a line names: `never`, `fixed` and a number, or `measured` and two.
+pub fn rule(line: &Line<'_>, place: usize) -> Patience {
+    let text = line.text;
+    match line.letter(place) {
+        Some(b'f') => Patience::Fixed(numbers::fraction(text, 0)),
+        Some(b'm') => Patience::Measured(numbers::fraction(text, 0), numbers::fraction(text, 1)),
+        _ => Patience::Never,
     }
 }
 
@@ -65,19 +68,20 @@ pub fn size(rule: Patience) -> usize {
     }
 }
 
-// A sheet from number k of a text on. It is timed where the text has the word `spread`.
-pub fn sheet(text: &str, k: usize) -> Sheet {
+// A sheet from number k of a line on. It is timed where the line has the word `spread`, of which the p is looked for.
+pub fn sheet(line: &Line<'_>, k: usize) -> Sheet {
+    let text = line.text;
     Sheet {
         mean: numbers::fraction(text, k),
         spread: numbers::fraction(text, k.saturating_add(1)),
-        timed: text.contains("spread"),
+        timed: text.contains(&b'p'),
     }
 }
 
 // How long to wait under a rule, with a sheet.
-pub fn wait(rt: &impl Print, text: &str) -> io::Result<()> {
-    let rule = rule(text);
-    match patience::wait_of(sheet(text, size(rule)), rule) {
+pub fn wait(rt: &impl Print, line: &Line<'_>) -> io::Result<()> {
+    let rule = rule(line, 5);
+    match patience::wait_of(sheet(line, size(rule)), rule) {
         Err(why) => page::refused(rt, why),
         Ok(None) => print!(rt; "\n= never"),
         Ok(Some(length)) => decimals::milliseconds(rt, "\n= wait ", length),
@@ -85,8 +89,8 @@ pub fn wait(rt: &impl Print, text: &str) -> io::Result<()> {
 }
 
 // One sample, on a sheet.
-pub fn gauge(rt: &impl Print, text: &str) -> io::Result<()> {
-    timed(rt, &mut sheet(text, 1), numbers::fraction(text, 0))
+pub fn gauge(rt: &impl Print, line: &Line<'_>) -> io::Result<()> {
+    timed(rt, &mut sheet(line, 1), numbers::fraction(line.text, 0))
 }
 
 fn said(rt: &impl Print, label: &str, answer: Result<bool, Refusal>) -> io::Result<()> {
@@ -98,9 +102,9 @@ fn said(rt: &impl Print, label: &str, answer: Result<bool, Refusal>) -> io::Resu
 }
 
 // Two readings of the clock: now, and when a packet was last heard or sent.
-pub fn now(rt: &impl Print, text: &str) -> io::Result<()> {
-    let now = Tick(numbers::whole(text, 0));
-    let last = Tick(numbers::whole(text, 1));
+pub fn now(rt: &impl Print, line: &Line<'_>) -> io::Result<()> {
+    let now = Tick(numbers::whole(line.text, 0));
+    let last = Tick(numbers::whole(line.text, 1));
     said(rt, "\n= lost", silence::line_lost(now, last))?;
     said(rt, ", heartbeat due", silence::heartbeat_due(now, last))
 }

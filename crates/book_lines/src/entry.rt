@@ -1,7 +1,7 @@
 // The bytes that a text spells.
 ghost use Rattle.std.specs.Prelude.{◌≤◌, IfSome, length};
 
-use crate::hex;
+use crate::{hex, numbers, scan};
 
 // A text has two runs at most, with one more piece behind the last.
 const PIECES: usize = 3;
@@ -18,22 +18,22 @@ fn repeat(out: &mut [u8], put: usize, times: usize) -> Option<usize>
 
 // Puts what a text spells up to the end of its first run, and answers how many bytes that are, and the text behind it. `5A*1463` is
 // a run: the byte 5A, 1,463 times.
-fn first_run<'a>(text: &'a str, out: &mut [u8]) -> (usize, &'a str)
+fn first_run<'a>(text: &'a [u8], out: &mut [u8]) -> (usize, &'a [u8])
     ensures { result.0 ≤ length out.new }
 {
-    let Some((front, back)) = text.split_once('*') else {
-        return (hex::decode(text.as_bytes(), out), "");
-    };
-    let put = hex::decode(front.as_bytes(), out);
-    let (times, behind) = back
-        .split_once(|c: char| !c.is_ascii_digit())
-        .unwrap_or((back, ""));
-    let times = times.parse().unwrap_or(0);
-    (repeat(out, put, times).unwrap_or(0), behind)
+    let (front, back) = scan::cut(text, b'*');
+    let put = hex::decode(front, out);
+    if back.is_empty() {
+        return (put, back);
+    }
+    let (times, behind) = numbers::first(back);
+    (repeat(out, put, times as usize).unwrap_or(0), behind)
 }
 
 // Puts what a text spells at the start of out, and answers those bytes.
-pub fn bytes<'a>(text: &str, out: &'a mut [u8]) -> &'a [u8] {
+pub fn bytes<'a>(text: &[u8], out: &'a mut [u8]) -> &'a [u8]
+    ensures { length result.now ≤ length out.old }
+{
     let mut count = 0;
     let mut rest = text;
     for _ in 0..PIECES {

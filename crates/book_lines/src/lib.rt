@@ -5,3 +5,4 @@ pub mod entry;
 mod hex;
 pub mod line;
 pub mod numbers;
+pub mod scan;

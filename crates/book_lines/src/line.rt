@@ -1,37 +1,37 @@
 // A line of the book, taken apart.
-use crate::entry;
+use crate::{entry, numbers, scan};
+use book_page::page;
 
-// The first word, what stands behind it up to `>`, the bytes that this spells, and the number behind `>`.
+// The whole line, which is read by its bytes, since it may be no UTF-8; the bytes that it spells in front of `>`; and the number behind
+// `>`. The bytes lie at the start of a room: behind them are noughts, or what a run left that didn't fit.
 #[derive(Clone, Copy)]
 pub struct Line<'a> {
-    pub word: &'a str,
-    pub text: &'a str,
+    pub text: &'a [u8],
+    pub room: &'a [u8; page::ROOM],
     pub bytes: &'a [u8],
     pub mark: Option<usize>,
 }
 
 impl<'a> Line<'a> {
-    // The bytes are laid out in a room for them.
-    pub fn read(line: &'a str, room: &'a mut [u8]) -> Line<'a> {
-        let (word, rest) = line.split_once(' ').unwrap_or((line, ""));
-        let (text, mark) = match rest.split_once('>') {
-            Some((text, number)) => (text, number.trim_ascii().parse().ok()),
-            None => (rest, None),
+    pub fn read(text: &'a [u8], room: &'a mut [u8; page::ROOM]) -> Line<'a> {
+        let (front, behind) = scan::cut(text, b'>');
+        let count = entry::bytes(front, room).len();
+        let mark = if behind.is_empty() {
+            None
+        } else {
+            Some(numbers::whole(behind, 0) as usize)
         };
         Line {
-            word,
             text,
-            bytes: entry::bytes(text, room),
+            room,
+            bytes: &room[..count],
             mark,
         }
     }
 
-    // The second word, which says what is done.
-    pub fn command(&self) -> &'a str {
-        let text = self.text;
-        match text.split_once(' ') {
-            Some((command, _)) => command,
-            None => text,
-        }
+    // The letter at a place. A word is known by one or two of them, and not compared whole: a line that spells the rest of it otherwise
+    // must be answered as ever.
+    pub fn letter(&self, place: usize) -> Option<u8> {
+        self.text.get(place).copied()
     }
 }

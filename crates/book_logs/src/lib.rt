@@ -2,7 +2,7 @@
 #![tactic(auto)]
 
 use book_lines::line::Line;
-use book_lines::{entry, numbers};
+use book_lines::{entry, numbers, scan};
 use book_page::page;
 use lent_log::Log;
 use std::io;
@@ -32,15 +32,15 @@ fn tell(rt: &impl Print, log: Log) -> io::Result<()> {
     }
 }
 
-// The packet that a line asks for.
+// The packet that a line asks for: what `give` says, a `beat`, or the end.
 fn packet(line: &Line<'_>, log: Log, bytes: &[u8], out: &mut [u8]) -> Result<usize, Refusal> {
-    match line.command() {
-        "give" => {
+    match line.letter(4) {
+        Some(b'g') => {
             let first = Sequence(numbers::whole(line.text, 0));
             let count = (numbers::whole(line.text, 1) % 65536) as u16;
             lend::answer(log, bytes, first, count, out)
         }
-        "beat" => lend::heartbeat(log, bytes, out),
+        Some(b'b') => lend::heartbeat(log, bytes, out),
         _ => lend::end_packet(log, bytes, out),
     }
 }
@@ -70,13 +70,13 @@ impl Shelf {
     }
 
     // A log as the line says: its numbers, and behind the word `bytes` what is lent.
-    fn given(&mut self, rt: &impl Print, text: &str) -> io::Result<()> {
+    fn given(&mut self, rt: &impl Print, text: &[u8]) -> io::Result<()> {
         let log = Log {
             count: numbers::whole(text, 0),
             used: numbers::whole(text, 1) as usize,
             ended: numbers::whole(text, 2) == 1,
         };
-        let (_, said) = text.split_once("bytes").unwrap_or((text, ""));
+        let (_, said) = scan::cut(text, b'b');
         let bytes = entry::bytes(said, &mut self.lent);
         tell(rt, log)?;
         if !lent_log::hangs_together(log, bytes) {
@@ -98,16 +98,16 @@ impl Shelf {
         }
     }
 
-    // What a line does with a log over the bytes that are lent.
+    // What a line does with a log over the bytes that are lent: `add`, `many` and `end` change it.
     fn used(&mut self, rt: &impl Print, line: &Line<'_>) -> io::Result<()> {
         let log = self.log;
         let Some(bytes) = self.lent.get_mut(..self.size) else {
             return Ok(());
         };
-        let said = match line.command() {
-            "add" => lent_log::add(log, bytes, line.bytes),
-            "many" => lent_log::add_many(log, bytes, line.bytes),
-            "end" => lent_log::declare_end(log, bytes),
+        let said = match line.letter(4) {
+            Some(b'a') => lent_log::add(log, bytes, line.bytes),
+            Some(b'm') => lent_log::add_many(log, bytes, line.bytes),
+            Some(b'e') => lent_log::declare_end(log, bytes),
             _ => return send(rt, line, log, bytes),
         };
         self.entered(rt, said)
@@ -125,22 +125,27 @@ impl Shelf {
         match two(&mut self.lent, message) {
             Err(why) => page::refused(rt, why),
             Ok(log) => {
-                let both = Line::read("log give from 1 count 2", &mut []);
+                let both = Line {
+                    text: b"log give from 1 count 2",
+                    mark: None,
+                    ..*line
+                };
                 send(rt, &both, log, &self.lent)
             }
         }
     }
 
-    // The log after a line.
+    // The log after a line: `lend`, or `log` and a second word, which says what is done.
     pub fn answer(&mut self, rt: &impl Print, line: &Line<'_>) -> io::Result<()> {
-        match (line.word, line.command()) {
-            ("lend", _) => self.both(rt, line),
-            (_, "open") => {
+        match (line.letter(1), line.letter(4)) {
+            (Some(b'e'), _) => self.both(rt, line),
+            (_, None) => Ok(()),
+            (_, Some(b'o')) => {
                 self.log = EMPTY;
                 self.size = numbers::whole(line.text, 0) as usize;
                 tell(rt, EMPTY)
             }
-            (_, "is") => self.given(rt, line.text),
+            (_, Some(b'i')) => self.given(rt, line.text),
             _ => self.used(rt, line),
         }
     }

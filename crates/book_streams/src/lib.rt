@@ -2,7 +2,7 @@
 #![tactic(auto)]
 
 use book_lines::line::Line;
-use book_lines::{entry, numbers};
+use book_lines::{entry, numbers, scan};
 use book_packets::soup_packets;
 use book_page::page;
 use soup::line;
@@ -133,7 +133,8 @@ impl Stream {
 
     // A stream as the line says: its numbers, behind a colon the bytes at the buffer's start, and behind `>` how long the buffer is.
     fn open(&mut self, line: &Line<'_>) {
-        let (front, said) = line.text.split_once(':').unwrap_or((line.text, ""));
+        let (said, _) = scan::cut(line.text, b'>');
+        let (front, bytes) = scan::cut(said, b':');
         *self = Stream {
             pieces: Pieces {
                 kept: numbers::whole(front, 0) as usize,
@@ -143,7 +144,7 @@ impl Stream {
             buffer: [page::UNTOUCHED; ROOM],
             size: line.mark.unwrap_or(line::LONGEST),
         };
-        entry::bytes(said, &mut self.buffer);
+        entry::bytes(bytes, &mut self.buffer);
     }
 
     // What one call does with the part of the buffer that is lent, and where to go on in the piece. All of the buffer is looked at.
@@ -169,13 +170,13 @@ impl Stream {
         Ok(())
     }
 
-    // The stream after a line. Singly each byte is a piece of its own.
+    // The stream after a line: `stream`, `feed`, or `feed singly`, where each byte is a piece of its own.
     pub fn answer(&mut self, rt: &impl Print, line: &Line<'_>) -> io::Result<()> {
-        if line.word == "stream" {
+        if line.letter(0) == Some(b's') {
             self.open(line);
             return Ok(());
         }
-        if line.command() == "singly" {
+        if line.letter(5) == Some(b's') {
             for piece in line.bytes.chunks(1) {
                 self.feed(rt, piece, 0)?;
             }

@@ -1,5 +1,5 @@
 // The area that is lent for held messages, and what was changed in it.
-use book_lines::{entry, numbers};
+use book_lines::{entry, numbers, scan};
 use book_page::page;
 use held::slots;
 use std::io;
@@ -8,18 +8,19 @@ use std::io;
 pub const ROOM: usize = 48576;
 
 // Puts the bytes behind the colon where a slot begins.
-pub(crate) fn lay(text: &str, area: &mut [u8; ROOM]) {
-    if let Some((slot, said)) = text.split_once(':') {
-        let start = (numbers::whole(slot, 0) % 33) as usize * slots::SLOT;
-        entry::bytes(said, &mut area[start..]);
-    }
+pub(crate) fn lay(text: &[u8], area: &mut [u8; ROOM]) {
+    let (_, said) = scan::cut(text, b':');
+    let start = (numbers::whole(text, 0) % 33) as usize * slots::SLOT;
+    entry::bytes(said, &mut area[start..]);
 }
 
-// The bitmap in which the slots of these messages are full.
-pub(crate) fn bitmap(numbers: &str) -> u32 {
+// The bitmap in which the slots of a line's messages are full, of which its number k is the first, and 32 are looked at. Behind the
+// last one is 0, which is no message.
+pub(crate) fn bitmap(text: &[u8], k: usize) -> u32 {
     let mut held = 0;
-    for word in numbers.split(' ') {
-        if let Ok(number) = word.parse::<u64>() {
+    for place in 0..32 {
+        let number = numbers::whole(text, k.saturating_add(place));
+        if number != 0 {
             held |= 1 << (number % 32) as u32;
         }
     }

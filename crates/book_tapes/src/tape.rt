@@ -2,7 +2,7 @@
 use crate::area;
 use asking::Asked;
 use book_lines::line::Line;
-use book_lines::{entry, numbers};
+use book_lines::{entry, numbers, scan};
 use book_page::page;
 use held::slots;
 use record::standing::Standing;
@@ -76,19 +76,18 @@ fn session(d: &[u8]) -> Option<Session> {
     }
 }
 
-// A record as the line says: the session's bytes, and decimal numbers, of which the session is counted as the first. Behind the word
-// `held` stand the numbers of messages whose slots are full.
-fn have(text: &str) -> Record {
+// A record as the line says: the session's bytes, up to the word `next`, and decimal numbers, of which the session is counted as the
+// first. Behind them stand the numbers of messages whose slots are full.
+fn have(text: &[u8]) -> Record {
     let mut room = [0u8; 64];
-    let (name, _) = text.split_once("next").unwrap_or((text, ""));
-    let (_, full) = text.split_once("held").unwrap_or((text, ""));
+    let (name, _) = scan::cut(text, b'n');
     Record {
         session: session(entry::bytes(name, &mut room)).unwrap_or(Session::Memx(SessionId(0))),
         next: Sequence(numbers::whole(text, 1)),
         top: Sequence(numbers::whole(text, 2)),
         ended: numbers::whole(text, 4) == 1,
         asked: Sequence(numbers::whole(text, 3)),
-        held: area::bitmap(full),
+        held: area::bitmap(text, 5),
     }
 }
 
@@ -105,6 +104,31 @@ fn delivered(
         print!(rt; ", bytes {bytes}")?;
     }
     page::untouched(rt, out, bytes)
+}
+
+// The record after a datagram; after a refusal it is the one before.
+fn taken(
+    rt: &impl Print,
+    kept: Record,
+    area: &mut [u8],
+    d: &[u8],
+    room: usize,
+) -> io::Result<Record> {
+    let mut out = [page::UNTOUCHED; page::ROOM];
+    let Some(lent) = out.get_mut(..room) else {
+        return Ok(kept);
+    };
+    match taking::take(kept, area, d, lent) {
+        Err(why) => {
+            page::refused(rt, why)?;
+            page::untouched(rt, &out, 0)?;
+            Ok(kept)
+        }
+        Ok(took) => {
+            delivered(rt, &out, took.bytes, kept.next, took.messages)?;
+            Ok(took.after)
+        }
+    }
 }
 
 impl Tape {
@@ -139,34 +163,24 @@ impl Tape {
         }
     }
 
-    // After a refusal the record is the one before. All of the area is looked at, not only what is lent of it.
+    // After a refusal the record is the one before, and where a line lends more than there is nothing is taken. All of the area is looked
+    // at, not only what is lent of it.
     fn take(&mut self, rt: &impl Print, d: &[u8], room: usize) -> io::Result<()> {
-        let mut out = [page::UNTOUCHED; page::ROOM];
         let before = self.area;
-        let kept = self.kept;
-        let (Some(lent), Some(area)) = (out.get_mut(..room), self.area.get_mut(..self.size)) else {
+        let Some(area) = self.area.get_mut(..self.size) else {
             return Ok(());
         };
-        match taking::take(kept, area, d, lent) {
-            Err(why) => {
-                page::refused(rt, why)?;
-                page::untouched(rt, &out, 0)?;
-            }
-            Ok(took) => {
-                delivered(rt, &out, took.bytes, kept.next, took.messages)?;
-                self.kept = took.after;
-            }
-        }
+        self.kept = taken(rt, self.kept, area, d, room)?;
         area::changes(rt, &before, &self.area)?;
         tell(rt, self.kept)
     }
 
     // The rule comes first, then the time that has passed, then the sheet.
-    fn ask(&mut self, rt: &impl Print, text: &str) -> io::Result<()> {
-        let rule = book_clock::rule(text);
+    fn ask(&mut self, rt: &impl Print, line: &Line<'_>) -> io::Result<()> {
+        let rule = book_clock::rule(line, 4);
         let k = book_clock::size(rule);
-        let sheet = book_clock::sheet(text, k.saturating_add(1));
-        match asking::ask(self.kept, sheet, rule, numbers::fraction(text, k)) {
+        let sheet = book_clock::sheet(line, k.saturating_add(1));
+        match asking::ask(self.kept, sheet, rule, numbers::fraction(line.text, k)) {
             Err(why) => page::refused(rt, why),
             Ok(Asked::Nothing) => print!(rt; "\n= nothing"),
             Ok(Asked::Wait) => print!(rt; "\n= wait"),
@@ -185,24 +199,25 @@ impl Tape {
     }
 
     // The area as a line says: bytes lie in a slot, or so many bytes of it are lent.
-    fn lend(&mut self, text: &str) {
-        match text.strip_prefix("slot") {
-            Some(slot) => area::lay(slot, &mut self.area),
-            None => self.size = numbers::whole(text, 0) as usize,
+    fn lend(&mut self, line: &Line<'_>) {
+        match line.letter(5) {
+            Some(b's') => area::lay(line.text, &mut self.area),
+            Some(_) => self.size = numbers::whole(line.text, 0) as usize,
+            None => {}
         }
     }
 
-    // The record after a line.
+    // The record after a line: `open`, `have`, `take`, `area`, `ask` or `range`.
     pub fn answer(&mut self, rt: &impl Print, line: &Line<'_>) -> io::Result<()> {
-        match line.word {
-            "open" => self.open(rt, line.bytes),
-            "have" => self.begin(rt, have(line.text)),
-            "take" => self.take(rt, line.bytes, line.mark.unwrap_or(page::ROOM)),
-            "ask" => self.ask(rt, line.text),
-            "area" => {
-                self.lend(line.text);
+        match (line.letter(0), line.letter(1)) {
+            (Some(b'o'), _) => self.open(rt, line.bytes),
+            (Some(b'h'), _) => self.begin(rt, have(line.text)),
+            (Some(b't'), _) => self.take(rt, line.bytes, line.mark.unwrap_or(page::ROOM)),
+            (Some(b'a'), Some(b'r')) => {
+                self.lend(line);
                 Ok(())
             }
+            (Some(b'a'), _) => self.ask(rt, line),
             _ => range(rt, "\n= ", self.kept, numbers::whole(line.text, 0)),
         }
     }

@@ -12,126 +12,113 @@ use wire::fields;
 use wire::kinds::{Password, Sequence, SessionId};
 use wire::refusal::Refusal;
 
-// The fields of a line lie within so many bytes.
-const FIELDS: usize = 48;
+// The room in which a line's fields lie. What a shorter line lacks is what stands there.
+type Room = [u8; page::ROOM];
 
-// The bytes that hold the fields; what a shorter line lacks is 0.
-fn head(d: &[u8]) -> [u8; FIELDS] {
-    let mut head = [0u8; FIELDS];
-    for (field, b) in head.iter_mut().zip(d) {
-        *field = *b;
-    }
-    head
-}
-
-fn number(head: &[u8; FIELDS], place: usize) -> Sequence
-    requires { place + 8 ≤ 48 }
+fn number(d: &Room, place: usize) -> Sequence
+    requires { place + 8 ≤ 65600 }
 {
-    Sequence(fields::get8(head, place))
+    Sequence(fields::get8(d, place))
 }
 
-// What stands from a place on.
-fn rest(d: &[u8], place: usize) -> &[u8] {
-    d.get(place..).unwrap_or(&[])
+// What stands from a place on, up to the end of what the line spells.
+fn rest<'a>(line: &Line<'a>, place: usize) -> &'a [u8] {
+    line.bytes.get(place..).unwrap_or(&[])
 }
 
-fn down(d: &[u8], out: &mut [u8]) -> Result<usize, Refusal> {
-    let head = head(d);
-    match head[0] {
-        b'A' => ufo_write::write_accept(names::get_name(&head, 1), number(&head, 11), out),
-        b'J' => ufo_write::write_reject(head[1], out),
+fn down(line: &Line<'_>, out: &mut [u8]) -> Result<usize, Refusal> {
+    let d = line.room;
+    match d[0] {
+        b'A' => ufo_write::write_accept(names::get_name(d, 1), number(d, 11), out),
+        b'J' => ufo_write::write_reject(d[1], out),
         b'S' => {
-            let count = fields::get2(&head, 9);
-            ufo_write::write_messages(number(&head, 1), count, rest(d, 11), out)
+            let count = fields::get2(d, 9);
+            ufo_write::write_messages(number(d, 1), count, rest(line, 11), out)
         }
-        _ => ufo_write::write_end(number(&head, 1), out),
+        _ => ufo_write::write_end(number(d, 1), out),
     }
 }
 
-fn up(d: &[u8], out: &mut [u8]) -> Result<usize, Refusal> {
-    let head = head(d);
-    match head[0] {
+fn up(line: &Line<'_>, out: &mut [u8]) -> Result<usize, Refusal> {
+    let d = line.room;
+    match d[0] {
         b'L' => ufo_up_write::write_login(
-            names::get_user(&head, 1),
-            Password(names::get_name(&head, 7)),
-            names::get_name(&head, 17),
+            names::get_user(d, 1),
+            Password(names::get_name(d, 7)),
+            names::get_name(d, 17),
             out,
         ),
-        b'T' => ufo_up_write::write_request(number(&head, 1), fields::get2(&head, 9), out),
-        b'U' => ufo_up_write::write_unsequenced(rest(d, 1), out),
+        b'T' => ufo_up_write::write_request(number(d, 1), fields::get2(d, 9), out),
+        b'U' => ufo_up_write::write_unsequenced(rest(line, 1), out),
         b'R' => ufo_up_write::write_heartbeat(out),
         _ => ufo_up_write::write_logout(out),
     }
 }
 
-// A MEMX packet with extra bytes. Behind them stand the count, in two bytes, and the blocks.
-fn broadcast(d: &[u8], extra: &[u8], behind: &[u8], out: &mut [u8]) -> Result<usize, Refusal> {
-    let head = head(d);
-    let session = SessionId(fields::get8(&head, 1));
-    let number = number(&head, 9);
-    match head[0] {
+// A MEMX packet with extra bytes. The count stands at a place of the line, and the blocks behind it.
+fn broadcast(line: &Line<'_>, extra: &[u8], place: usize, out: &mut [u8]) -> Result<usize, Refusal>
+    requires { place + 2 ≤ 65600 }
+{
+    let d = line.room;
+    let session = SessionId(fields::get8(d, 1));
+    let number = number(d, 9);
+    match d[0] {
         0 => memx_write::write_heartbeat(session, number, extra, out),
         1 => memx_write::write_shutdown(session, number, extra, out),
         _ => {
-            let (count, blocks) = behind.split_first_chunk().unwrap_or((&[0, 0], &[]));
-            memx_write::write_messages(
-                session,
-                number,
-                u16::from_be_bytes(*count),
-                extra,
-                blocks,
-                out,
-            )
+            let count = fields::get2(d, place);
+            let blocks = rest(line, place + 2);
+            memx_write::write_messages(session, number, count, extra, blocks, out)
         }
     }
 }
 
 // Behind the number stands how many extra bytes there are, in two bytes, and then those.
-fn headed(d: &[u8], out: &mut [u8]) -> Result<usize, Refusal> {
-    let extra = usize::from(fields::get2(&head(d), 17));
-    let (extra, behind) = rest(d, 19).split_at_checked(extra).unwrap_or((&[], &[]));
-    broadcast(d, extra, behind, out)
+fn headed(line: &Line<'_>, out: &mut [u8]) -> Result<usize, Refusal> {
+    let d = line.room;
+    let place = 19 + usize::from(fields::get2(d, 17));
+    broadcast(line, &d[19..place], place, out)
 }
 
-fn soup(d: &[u8], out: &mut [u8]) -> Result<usize, Refusal> {
-    let head = head(d);
-    match head[0] {
-        b'+' => soup_write::write_debug(rest(d, 1), out),
-        b'A' => soup_write::write_accept(names::get_name(&head, 1), number(&head, 11), out),
-        b'J' => soup_write::write_reject(head[1], out),
-        b'S' => soup_write::write_sequenced(rest(d, 1), out),
+fn soup(line: &Line<'_>, out: &mut [u8]) -> Result<usize, Refusal> {
+    let d = line.room;
+    match d[0] {
+        b'+' => soup_write::write_debug(rest(line, 1), out),
+        b'A' => soup_write::write_accept(names::get_name(d, 1), number(d, 11), out),
+        b'J' => soup_write::write_reject(d[1], out),
+        b'S' => soup_write::write_sequenced(rest(line, 1), out),
         b'H' => soup_write::write_server_heartbeat(out),
         b'Z' => soup_write::write_end_of_session(out),
         b'L' => soup_write::write_login(
-            names::get_user(&head, 1),
-            Password(names::get_name(&head, 7)),
-            names::get_name(&head, 17),
-            number(&head, 27),
+            names::get_user(d, 1),
+            Password(names::get_name(d, 7)),
+            names::get_name(d, 17),
+            number(d, 27),
             out,
         ),
-        b'U' => soup_write::write_unsequenced(rest(d, 1), out),
+        b'U' => soup_write::write_unsequenced(rest(line, 1), out),
         b'R' => soup_write::write_client_heartbeat(out),
         _ => soup_write::write_logout(out),
     }
 }
 
 // Fields that the type lacks have what stands in their place; the writer looks at none of them.
-fn tcp_fields(head: &[u8; FIELDS]) -> Fields {
-    let kind = Kind::try_from(head[0]);
-    let first = fields::get8(head, 1);
-    let second = fields::get8(head, 9);
+fn tcp_fields(d: &Room) -> Fields {
+    let kind = Kind::try_from(d[0]);
+    let first = fields::get8(d, 1);
+    let second = fields::get8(d, 9);
     let number = match kind {
         Ok(Kind::ReplayBegin | Kind::StreamBegin | Kind::StreamComplete) => first,
         _ => second,
     };
     let count = match kind {
-        Ok(Kind::ReplayComplete) => fields::get4(head, 1),
-        Ok(Kind::ReplayBegin) => fields::get4(head, 9),
-        _ => fields::get4(head, 17),
+        Ok(Kind::ReplayComplete) => fields::get4(d, 1),
+        Ok(Kind::ReplayBegin) => fields::get4(d, 9),
+        _ => fields::get4(d, 17),
     };
     Fields {
-        kind: head[0],
-        letter: head[1],
+        kind: d[0],
+        letter: d[1],
         count,
         session: SessionId(first),
         number: Sequence(number),
@@ -140,9 +127,9 @@ fn tcp_fields(head: &[u8; FIELDS]) -> Fields {
 }
 
 // What stands behind the fields is the body.
-fn tcp(d: &[u8], out: &mut [u8]) -> Result<usize, Refusal> {
-    let head = head(d);
-    let body = match Kind::try_from(head[0]) {
+fn tcp(line: &Line<'_>, out: &mut [u8]) -> Result<usize, Refusal> {
+    let d = line.room;
+    let body = match Kind::try_from(d[0]) {
         Ok(
             Kind::LoginAccepted
             | Kind::LoginRejected
@@ -157,26 +144,26 @@ fn tcp(d: &[u8], out: &mut [u8]) -> Result<usize, Refusal> {
         Ok(Kind::Replay) => 21,
         _ => 1,
     };
-    memx_tcp::writing::write(tcp_fields(&head), rest(d, body), out)
+    memx_tcp::writing::write(tcp_fields(d), rest(line, body), out)
 }
 
-// The packet that a line gives, whose second word says of which protocol it is.
-fn packet(line: &Line<'_>, out: &mut [u8]) -> Result<usize, Refusal> {
-    let d = line.bytes;
-    match line.command() {
-        "down" => down(d, out),
-        "up" => up(d, out),
-        "memx" => broadcast(d, b"", rest(d, 17), out),
-        "headed" => headed(d, out),
-        "tcp" => tcp(d, out),
-        _ => soup(d, out),
+// The packet that a line gives, whose second word says of which protocol it is: `down`, `up`, `memx`, `headed`, `tcp` or `soup`.
+fn packet(protocol: u8, line: &Line<'_>, out: &mut [u8]) -> Result<usize, Refusal> {
+    match protocol {
+        b'd' => down(line, out),
+        b'u' => up(line, out),
+        b'm' => broadcast(line, b"", 17, out),
+        b'h' => headed(line, out),
+        b't' => tcp(line, out),
+        _ => soup(line, out),
     }
 }
 
 pub fn put(rt: &impl Print, line: &Line<'_>) -> io::Result<()> {
     let mut out = [page::UNTOUCHED; page::ROOM];
-    if let Some(lent) = out.get_mut(..line.mark.unwrap_or(page::ROOM)) {
-        let said = packet(line, lent);
+    let room = out.get_mut(..line.mark.unwrap_or(page::ROOM));
+    if let (Some(protocol), Some(lent)) = (line.letter(4), room) {
+        let said = packet(protocol, line, lent);
         page::wrote(rt, "\n= written, bytes ", said, &out)?;
     }
     Ok(())

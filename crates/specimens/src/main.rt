@@ -1,5 +1,5 @@
-// The specimen book is read from standard input and run on the desk. A line that begins with a small letter is for the desk: its
-// first word says for whom, and its hexadecimal digits, in capitals, are bytes, or, where the words ask for numbers, decimal ones.
+// The specimen book is read from standard input and run on the desk. A line that begins with a small letter is for the desk: the
+// letter says for whom, and the line's hexadecimal digits, in capitals, are bytes, or, where the words ask for numbers, decimal ones.
 // Every line is copied, and an answer follows its own.
 #![tactic(auto)]
 
@@ -26,31 +26,38 @@ struct Desk {
 }
 
 impl Desk {
+    // `tcp` and `take` have the first letter in common, and so have `stream` and `soup`, `feed` and `find`.
     fn answer(&mut self, rt: &impl Print, line: &Line<'_>) -> io::Result<()> {
+        let [letter, second, ..] = line.text else {
+            return Ok(());
+        };
         let d = line.bytes;
-        match line.word {
-            "down" => ufo_packets::down(rt, d),
-            "up" => ufo_packets::up(rt, d),
-            "find" => ufo_packets::find(rt, d, line.mark.unwrap_or(page::ROOM)),
-            "block" => visiting::visit(rt, d, line.mark.unwrap_or(page::ROOM)),
-            "memx" => memx_packets::memx(rt, d),
-            "soup" => soup_packets::soup(rt, d),
-            "tcp" => tcp_packets::tcp(rt, d),
-            "put" => book_writers::put(rt, line),
-            "clock" => book_clock::clock(rt, d),
-            "wait" => book_clock::wait(rt, line.text),
-            "gauge" => book_clock::gauge(rt, line.text),
-            "now" => book_clock::now(rt, line.text),
-            "stream" | "feed" => self.stream.answer(rt, line),
-            "open" | "have" | "take" | "ask" | "area" | "range" => self.tape.answer(rt, line),
-            "log" | "lend" => self.shelf.answer(rt, line),
+        match (*letter, *second) {
+            (b't', b'c') => tcp_packets::tcp(rt, d),
+            (b's', b't') | (b'f', b'e') => self.stream.answer(rt, line),
+            (b'd', _) => ufo_packets::down(rt, d),
+            (b'u', _) => ufo_packets::up(rt, d),
+            (b'f', _) => ufo_packets::find(rt, d, line.mark.unwrap_or(page::ROOM)),
+            (b'b', _) => visiting::visit(rt, d, line.mark.unwrap_or(page::ROOM)),
+            (b'm', _) => memx_packets::memx(rt, d),
+            (b's', _) => soup_packets::soup(rt, d),
+            (b'p', _) => book_writers::put(rt, line),
+            (b'c', _) => book_clock::clock(rt, d),
+            (b'w', _) => book_clock::wait(rt, line),
+            (b'g', _) => book_clock::gauge(rt, line),
+            (b'n', _) => book_clock::now(rt, line),
+            (b'o' | b'h' | b't' | b'a' | b'r', _) => self.tape.answer(rt, line),
+            (b'l', _) => self.shelf.answer(rt, line),
             _ => Ok(()),
         }
     }
 
-    fn line(&mut self, rt: &impl Print, text: &str) -> io::Result<()> {
-        print!(rt; "{text}")?;
-        if text.starts_with(|c: char| c.is_ascii_lowercase()) {
+    fn line(&mut self, rt: &impl Print, text: &[u8]) -> io::Result<()> {
+        rt.write_all(text)?;
+        if text
+            .first()
+            .is_some_and(|letter| letter.is_ascii_lowercase())
+        {
             let mut room = [0u8; page::ROOM];
             self.answer(rt, &Line::read(text, &mut room))?;
         }
@@ -58,14 +65,14 @@ impl Desk {
     }
 }
 
-fn run(rt: &impl Print, book: &str) -> io::Result<()> {
+fn run(rt: &impl Print, book: &[u8]) -> io::Result<()> {
     let mut desk = Desk {
         tape: Tape::fresh(),
         shelf: Shelf::empty(),
         stream: Stream::fresh(),
     };
-    for text in book.split_terminator('\n') {
-        desk.line(rt, text)?;
+    for line in book.split_inclusive(|b| *b == b'\n') {
+        desk.line(rt, line.strip_suffix(b"\n").unwrap_or(line))?;
     }
     Ok(())
 }
@@ -96,8 +103,5 @@ fn read_full(from: &mut impl Read, room: &mut [u8]) -> io::Result<usize>
 fn main(rt: HostRuntime) -> io::Result<()> {
     let mut room = blank_book();
     let n = read_full(&mut rt.stdin(), &mut room)?;
-    match str::from_utf8(&room[..n]) {
-        Ok(book) => run(&rt, book),
-        Err(_) => Err(io::Error::from(io::ErrorKind::InvalidData)),
-    }
+    run(&rt, &room[..n])
 }
