@@ -10,6 +10,7 @@ fn behind_eights(s: &[u8], from: usize, to: usize) -> usize
     requires { (from ≤ to) × (to ≤ length s.now) }
     ensures { (from ≤ result) × (result ≤ to) × (unbroken (slice from result s.now) ≡ true) }
 {
+    // No `chunks_exact(8)`: with it, pieces of seven bytes took 1 % more instructions.
     let mut at = from;
     while 8 <= to - at {
         if !is_unbroken(&s[at..at + 8]) {
@@ -25,6 +26,7 @@ fn find(s: &[u8], from: usize, to: usize, byte: u8) -> usize
     requires { (from ≤ to) × (to ≤ length s.now) }
     ensures { (result ≡ from + index_of byte (slice from to s.now)) × (result ≤ to) }
 {
+    // No `for` and no `position`: over pieces of seven bytes they took 15 and 9 % more instructions.
     let mut at = from;
     while at < to {
         if s[at] == byte {
