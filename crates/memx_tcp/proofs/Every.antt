@@ -1,11 +1,12 @@
 -- What holds of every type: of each row of the table by computation, and of a type that is none.
 -- Assumes nothing.
-use Prim.Native.Nat.{ℕ, ◌+◌, ◌≤◌}
+use Prim.Native.Nat.{ℕ, zero, suc, ◌+◌, ◌≤◌, ◌<◌}
 use mathlib.Core.Path.{◌≡◌, refl, sym}
 use mathlib.Core.Logic.{inl, inr}
 use mathlib.Core.List.{List, [], ◌∷◌, map}
-use mathlib.Core.Bool.{Bool, true, false, ◌&&◌, ◌||◌, true≢false}
-use borrow.Author.Tests.{ne_eqb, eqb-true, leb-true}
+use mathlib.Core.Bool.{Bool, true, false, not, ◌&&◌, ◌||◌, true≢false}
+use native.Mathlib.Omega.{arith}
+use borrow.Author.Tests.{ne_eqb, eqb-true, eqb-false, leb-true}
 use types.Run.{OneOf}
 use Rattle.wire.specs.Checks.{◌is◌, ◌at_most◌}
 use Rattle.wire.proofs.Tests.{by-test, and_left, and_right}
@@ -71,6 +72,41 @@ of_types P (r ∷ rows) k h e =
 pub of-known : (P : ℕ → Type 0) → Types P table → (k : ℕ) → known k ≡ true → P k
 unfolding known
 of-known P h k e = of_types P table k h e
+
+-- ---- bytes
+
+-- a test that every number below n passes
+abbrev below : ℕ → (ℕ → Bool) → Bool
+below zero test = true
+below (suc n) test = test n && below n test
+
+of-below : (n : ℕ) (test : ℕ → Bool) → below n test ≡ true → (k : ℕ) → k < n → test k ≡ true
+of-below zero test e k h = absurd (omega arith)
+of-below (suc n) test e k h =
+    by-test (k is n)
+    (λ q. rw (eqb-true k n q) (and_left (test n) (below n test) e))
+    (λ q. let d = eqb-false k n q in of-below n test (and_right (test n) (below n test) e) k (omega arith))
+
+abbrev same : Bool → Bool → Bool
+same true b = b
+same false b = not b
+
+same-means : (a b : Bool) → same a b ≡ true → a ≡ b
+same-means true true e = refl
+same-means true false e = sym e
+same-means false true e = e
+same-means false false e = refl
+
+-- the types that there are
+abbrev ranges : ℕ → Bool
+ranges k = k at_most 11 || 100 at_most k && k at_most 104
+
+known_bytes : below 256 (λ k. same (ranges k) (known k)) ≡ true
+unfolding known
+known_bytes = refl
+
+pub known_is : (k : ℕ) → k < 256 → ranges k ≡ known k
+known_is k h = same-means (ranges k) (known k) (of-below 256 (λ k. same (ranges k) (known k)) known_bytes k h)
 
 -- ---- the arms of a match on a type
 
