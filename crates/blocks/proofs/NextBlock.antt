@@ -64,7 +64,8 @@ module _ (s : List ℕ) (p : ℕ) where
   pub block-over : length s < end_at s p → block_at s p ≡ refused Framing
   block-over h = simp (lt-leb (end_at s p) (length s) h)
 
-  pub block-fits : (l n : ℕ) → l ≡ stated (drop p s) → n ≡ end_at s p → n ≤ length s → block_at s p ≡ taken (record { start = p + 2; length = l; next = n })
+  pub block-fits : (l n : ℕ) → l ≡ stated (drop p s) → n ≡ end_at s p → n ≤ length s
+      → block_at s p ≡ taken (record { start = p + 2; length = l; next = n })
   block-fits l n e f h = rw (e, f) (block_in (rw f at h))
 
   -- a block was found: it ends inside, and there the next one begins

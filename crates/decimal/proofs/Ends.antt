@@ -1,7 +1,8 @@
 -- The digits that end a field, and what stands before them: spaces there, or nothing, and the digits are the number; anything else,
 -- and the field is misshapen.
 -- Assumes nothing.
-use Rattle.std.proofs.Common.{◌≡◌, ℕ, zero, suc, ◌+◌, ◌-◌, ◌*◌, ◌^◌, ◌<◌, ◌≤◌, true, false, Ok, Err, ◌&&◌, eqb, leb, List, [], ◌∷◌, ◌++◌, length}
+use Rattle.std.proofs.Common.{◌≡◌, ℕ, zero, suc, ◌+◌, ◌-◌, ◌*◌, ◌^◌, ◌<◌, ◌≤◌}
+use Rattle.std.proofs.Common.{true, false, Ok, Err, ◌&&◌, eqb, leb, List, [], ◌∷◌, ◌++◌, length}
 use Rattle.std.proofs.Common.{get_or, take, drop, refl, ◌∙◌, true≢false, le_of_suc-le-suc, not-suc-le-zero, add_comm, arith, length-drop}
 use Rattle.std.proofs.Common.{take-append-drop, drop_of_length-le, ne_eqb, eqb-true, le-leb, leb-false}
 use mathlib.Core.Bool.{and-false}

@@ -1,6 +1,7 @@
 -- Characters that are spaces, told by parts: a part and what follows it, and parts that overlap.
 -- Assumes nothing.
-use Rattle.std.proofs.Common.{◌≡◌, ℕ, suc, ◌+◌, ◌-◌, ◌<◌, ◌≤◌, Bool, true, false, ◌&&◌, eqb, List, [], ◌∷◌, ◌++◌, length, get_or, take, drop, sym}
+use Rattle.std.proofs.Common.{◌≡◌, ℕ, suc, ◌+◌, ◌-◌, ◌<◌, ◌≤◌, Bool, true, false, ◌&&◌, eqb}
+use Rattle.std.proofs.Common.{List, [], ◌∷◌, ◌++◌, length, get_or, take, drop, sym}
 use Rattle.std.proofs.Common.{refl, ap, ◌∙◌, add-one, arith, drop-cons, drop_of_length-le, take-add}
 use mathlib.Core.Bool.{and-true, and_assoc}
 use Rattle.wire.specs.Checks.{◌is◌}

@@ -33,7 +33,8 @@ module _ (out : List ℕ) (used : ℕ) (g : Begun out used) where
   abbrev sent : List ℕ → ℕ → Reply
   sent w room = settle (read_up (whole w)) (whole w) room
 
-  pub refused-behind : (w : List ℕ) (size : ℕ) (why : Refusal) (room : ℕ) → 2 + length w ≡ size → 0 < length w → read_message w ≡ refused why
+  pub refused-behind : (w : List ℕ) (size : ℕ) (why : Refusal) (room : ℕ)
+      → 2 + length w ≡ size → 0 < length w → read_message w ≡ refused why
       → unfit_behind out used size why ≡ sent w room
   refused-behind w size why room k h e =
       let s = so-far-lawful out used g in
@@ -58,7 +59,8 @@ module _ (out : List ℕ) (used : ℕ) (g : Begun out used) where
         let d = ne_eqb p.kind 85 u.1.1.0 in
         let r = ne_eqb p.kind 82 u.1.1.1.0 in
         let o = ne_eqb p.kind 79 u.1.1.1.1.0 in
-        rw (l, t, d, r, o) (refused-behind (p.kind ∷ body) (3 + length body) UnknownType room (omega arith) (omega arith) (rw (l, t, d, r, o)))
+        rw (l, t, d, r, o)
+        (refused-behind (p.kind ∷ body) (3 + length body) UnknownType room (omega arith) (omega arith) (rw (l, t, d, r, o)))
 
     module _ (h : 0 < length body) where
       -- a message of a type that has no body, whose block has `size` bytes without one

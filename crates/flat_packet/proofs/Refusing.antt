@@ -27,7 +27,8 @@ opened some limit d v = if some then if length d at_most limit then v else refus
 
 module _ (A : Type 0) (d : List ℕ) (room : ℕ) where
   -- a refusal stands
-  pub stands : (b : Bool) (why : Refusal) → if b then refused why else refused Overlong ≡ settle {A = A} (if b then refused why else refused Overlong) d room
+  pub stands : (b : Bool) (why : Refusal)
+      → if b then refused why else refused Overlong ≡ settle {A = A} (if b then refused why else refused Overlong) d room
   stands true why = refl
   stands false why = refl
 

@@ -38,14 +38,24 @@ flat_of lent piece left (taken (takes.Packet says number bytes place after)) =
       pieces = flat_pieces after;
     }
 flat_of lent piece left (taken (takes.Unfit why bytes place after)) =
-    record { refusal = 0; place = place; what = 2; why = number_of why; number = 0; bytes = bytes; packet = nothing; pieces = flat_pieces after }
+    record {
+      refusal = 0;
+      place = place;
+      what = 2;
+      why = number_of why;
+      number = 0;
+      bytes = bytes;
+      packet = nothing;
+      pieces = flat_pieces after;
+    }
 
 -- it is the verdict's: what is handed out stands at the buffer's start
 pub same-flat : (lent : FlatPieces) (buffer piece : List ℕ) (v : Verdict First)
     → flat_of lent piece (left_of (v into λ f. taken (at_start f)) buffer) (v told_by returned piece) ≡ flat_taken lent piece v
 same-flat lent buffer piece (refused why) = refl
 same-flat lent buffer piece (taken (used_up s)) = refl
-same-flat lent buffer piece (taken (given (packet d p number) s rest)) = rw (number-again number, take-append_seam d (drop (length d) buffer))
+same-flat lent buffer piece (taken (given (packet d p number) s rest)) =
+    rw (number-again number, take-append_seam d (drop (length d) buffer))
 same-flat lent buffer piece (taken (given (refusal d why) s rest)) = refl
 
 pub flattens : {v : Verdict First} {lent : FlatPieces} {buffer piece left : List ℕ} {r : Verdict Taken} {flat : FlatPiece}

@@ -61,7 +61,8 @@ module _ (lent : FlatPieces) (from : ℕ) where
       let passed = (all-passed (call_checks pieces buffer piece from) (taken (first machine left)) f known).1 in
       (first-genuine machine left (packet d p n) s rest (taken-same (first machine left) f passed)).0
 
-  pub as_read : {buffer piece left : List ℕ} {r : Verdict Taken} {said : Reading} {number : Option Sequence} {bytes place : ℕ} {after : Pieces}
+  pub as_read : {buffer piece left : List ℕ} {r : Verdict Taken} {said : Reading} {number : Option Sequence}
+      {bytes place : ℕ} {after : Pieces}
       → Returned (take_verdict lent buffer piece from) buffer piece r left
       → r ≡ taken (takes.Packet said number bytes place after)
       → AsRead said bytes left

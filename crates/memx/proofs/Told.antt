@@ -66,7 +66,8 @@ module _ (d : List ℕ) where
   unfolding read_news
   news-told h k says same =
       rw (past-header h (omega arith), ne_eqb (kind_in d) 2 (λ e. omega arith))
-      (told-alike (news_checks d) _ number memx_of (λ n. tell (says n)) (λ p. let l = eqb-true (length d) (header_in d) p.0 in same (omega arith)))
+      (told-alike (news_checks d) _ number memx_of (λ n. tell (says n))
+      (λ p. let l = eqb-true (length d) (header_in d) p.0 in same (omega arith)))
 
   pub heartbeat-told : Headed → kind_in d ≡ 0
       → read d told_by memx_of ≡ checked (news_checks d) (taken number) told_by (λ n. tell (Heartbeat n))

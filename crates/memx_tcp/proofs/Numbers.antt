@@ -1,4 +1,4 @@
--- Every count, session and number that its bytes can spell is taken, but a next number of 0, which is refused Absent: in 5, 8 and 101 alone.
+-- Every count, session and number that its bytes can spell is taken, but a next number of 0, refused Absent: in 5, 8 and 101 alone.
 -- Assumes nothing.
 use Prim.Native.Nat.{ℕ, ◌^◌, ◌<◌}
 use mathlib.Core.Path.{◌≡◌, refl}

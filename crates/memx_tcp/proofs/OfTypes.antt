@@ -101,4 +101,7 @@ module _ (n : ℕ) where
 
 pub known-kind : (k : Kind) → known (byte_of k) ≡ true
 unfolding known
-known-kind = by-kind (λ k. known (byte_of k) ≡ true) (refl and refl and refl and refl and refl and refl and refl and refl and refl and refl and refl and refl and refl and refl and refl and refl and refl and tt)
+known-kind =
+    by-kind (λ k. known (byte_of k) ≡ true)
+    (refl and refl and refl and refl and refl and refl and refl and refl and refl and refl
+    and refl and refl and refl and refl and refl and refl and refl and tt)

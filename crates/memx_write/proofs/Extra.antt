@@ -38,7 +38,8 @@ module _ (kind session number : ℕ) (extra follows : List ℕ) where
       → sent packet room ≡ checked ((length packet at_most limit else Overlong) ∷ (kind at_most 2 else UnknownType) ∷ []) (refused Form)
   over-237-is-5 room h =
       rw (headed-verdict, length-headed, lt-leb (header_size + length extra) 255 (omega arith))
-      (settle-checked {A = Packet} ((header_size + length extra + length follows at_most limit else Overlong) ∷ (kind at_most 2 else UnknownType) ∷ [])
+      (settle-checked {A = Packet}
+      ((header_size + length extra + length follows at_most limit else Overlong) ∷ (kind at_most 2 else UnknownType) ∷ [])
       (refused Form) packet room)
 
   -- the same without the extra bytes: what is checked behind the header does not look at them

@@ -21,7 +21,8 @@ module _ (name : Name) (d : List ℕ) where
   unfolding report_of
   ufo-reader-first why e = rw e
 
-  pub then-accept-is-16 : (session : List ℕ) (next : ℕ) → ufo.read d ≡ taken (ufo.accept session next) → report_of (Ufo name) d ≡ refused NotForRecord
+  pub then-accept-is-16 : (session : List ℕ) (next : ℕ) → ufo.read d ≡ taken (ufo.accept session next)
+      → report_of (Ufo name) d ≡ refused NotForRecord
   unfolding report_of
   then-accept-is-16 session next e = rw e
 

@@ -48,7 +48,8 @@ module _ {M : Type 1} {𝓤 : Ura M} (𝓛 : Logic 𝓤) (mem : Memory → SProp
         (record { answer = k.0; bytes = λ j. (k.1 j).1.1; slots = λ j. (k.1 j).1.0 })
         ((λ j. (k.1 j).0) ∙ taken-stored s.kept (taking s.kept s.area datagram room));
     ask_lent = λ sheet rule elapsed room κs a g x w p h f.
-        let q = by-facts 𝓤 p p (coded_result (asking-rows.the_row).coded (refusal-rows.the_row).coded) (kept.the_row).coded (λ t _. (t.answer, t.stored)) f f in
+        let q = by-facts 𝓤 p p (coded_result (asking-rows.the_row).coded (refusal-rows.the_row).coded) (kept.the_row).coded
+        (λ t _. (t.answer, t.stored)) f f in
         let k = rw (h.0, h.1, h.2, h.3) at q in
         let v = asking s.kept sheet rule elapsed in
         rw k.0 (request-left s room v _ (k.1 ∙ asked-stored s.kept v));

@@ -33,15 +33,18 @@ module _ (kept : Record) where
   range_at_lem h place = rw h
 
   -- from a place on, range by range
-  ranges-left : hangs kept ≡ true → (rs : List Range) (place : ℕ) → ((i n : ℕ) → n ≡ i + place → slice_get (missing_of kept) n ≡ slice_get rs i)
+  ranges-left : hangs kept ≡ true → (rs : List Range) (place : ℕ)
+      → ((i n : ℕ) → n ≡ i + place → slice_get (missing_of kept) n ≡ slice_get rs i)
       → (left : List Range → Type 0) → left rs → LeavesRanges kept (length rs) place left
   ranges-left h [] place f left l = l
   ranges-left h (r ∷ rs) place f left l =
-      let here : range_at kept place ≡ taken (Some r) = range_at_lem h place ∙ ap (λ (o : Option Range). taken o) (f 0 place (omega arith)) in
+      let here : range_at kept place ≡ taken (Some r) = range_at_lem h place
+      ∙ ap (λ (o : Option Range). taken o) (f 0 place (omega arith)) in
       λ κs a x e g p. rw (p, g.0, g.1, here)
       (ranges-left h rs (suc place) (λ i n m. f (suc i) n (omega arith)) (λ others. left (r ∷ others)) l)
 
-  told-left : (v : Verdict State) → standing kept ≡ v → (left : Verdict State → Type 0) → left v → LeavesTold kept (v told_by standing_of) left
+  told-left : (v : Verdict State) → standing kept ≡ v → (left : Verdict State → Type 0) → left v
+      → LeavesTold kept (v told_by standing_of) left
   told-left (refused n) e left l = l
   told-left (taken complete) e left l = l
   told-left (taken ongoing) e left l = l

@@ -17,7 +17,8 @@ use Rattle.wire.specs.Reply.{left_of}
 use Rattle.soup.specs.Reading.{packet_of}
 use Rattle.soup_pieces.specs.Machine.{Machine, Yield, packet, refusal, First, used_up, given, first, fates, fed, yielded}
 use Rattle.soup_pieces.specs.Eating.{machine_of, pieces_of, ready, told_number, returned, at_start}
-use Rattle.soup_pieces.specs.Calling.{Lent, machine_in, Entry, Permitted, Seen, a_packet, a_refusal, number_in, seen, Calls, uses_up, hands, refuses}
+use Rattle.soup_pieces.specs.Calling.{Lent, machine_in, Entry, Permitted, Seen, a_packet, a_refusal, number_in, seen}
+use Rattle.soup_pieces.specs.Calling.{Calls, uses_up, hands, refuses}
 use Rattle.soup_pieces.specs.Calling.{Underway, begun, handing, refusing, Feeds, done, feeds, joined}
 use Rattle.soup_pieces.specs.declared.Taken.{Taken}
 use Rattle.soup_pieces.specs.declared.Taken.TheVariants as takes
@@ -98,7 +99,8 @@ module _ (l : Lent) (piece : List ℕ) (place : ℕ) where
   Means (taken (takes.UsedUp then)) left = (yielded (fates s w) ≡ []) × (machine_of then left ≡ fed s w) × (ready then left ≡ true)
   Means (taken (takes.Packet says number bytes next then)) left = Further (a_packet (take bytes left) says (number_in number)) next
       (record { pieces = then; buffer = left })
-  Means (taken (takes.Unfit why bytes next then)) left = Further (a_refusal (take bytes left) why) next (record { pieces = then; buffer = left })
+  Means (taken (takes.Unfit why bytes next then)) left =
+      Further (a_refusal (take bytes left) why) next (record { pieces = then; buffer = left })
 
   module _ (h : Ready l) (p : place ≤ length piece) where
     long : 4098 ≤ length l.buffer

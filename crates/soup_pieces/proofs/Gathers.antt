@@ -108,7 +108,8 @@ module _ (buffer piece : List ℕ) (kept from next : ℕ) (few : kept ≤ 4097) 
   -- ---- no linefeed up to the 4,098th byte
 
   pub overruns-there : (m : ℕ) → kept + m ≡ 4097 → m < length w → unbroken (take (suc m) w) ≡ true → (place : ℕ) → place ≡ from + suc m
-      → Returned (taken (first (holding next K) w)) buffer piece (taken (takes.Unfit Overlong 4098 place (empty_pieces true next))) (copied (suc m))
+      → Returned (taken (first (holding next K) w)) buffer piece (taken (takes.Unfit Overlong 4098 place (empty_pieces true next)))
+      (copied (suc m))
   overruns-there m e h u place p =
       let b = get_or w m 0 in
       let left = drop (suc m) w in

@@ -65,7 +65,8 @@ module _ (pieces : Pieces) (buffer piece : List ℕ) (place : ℕ) where
           length-w : length w ≡ length piece - place
           length-w = length-drop place piece
 
-          pub all-dropped : found ≡ length piece → Returned (eating pieces buffer piece place) buffer piece (taken (takes.UsedUp pieces)) buffer
+          pub all-dropped : found ≡ length piece
+              → Returned (eating pieces buffer piece place) buffer piece (taken (takes.UsedUp pieces)) buffer
           unfolding first
           all-dropped e =
               let u : unbroken w ≡ true = rw (take_all (index_of 10 w) w (omega (arith, at-w, length-w))) at (unbroken-before w) in

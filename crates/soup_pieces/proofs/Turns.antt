@@ -48,6 +48,7 @@ module _ (s : Machine) (listening : s.dropping ≡ false) where
     pub message-past-last : s.next ≡ 2 ^ 64 - 1 → Refuses Bound
     message-past-last z = turned-away Bound (past-last s.next (gathered s 10) (sequenced message) e refl z)
 
-  pub second-accept : (session : List ℕ) (number : ℕ) → read (gathered s 10) ≡ taken (accept session number) → 1 ≤ s.next → Refuses NotForRecord
+  pub second-accept : (session : List ℕ) (number : ℕ) → read (gathered s 10) ≡ taken (accept session number)
+      → 1 ≤ s.next → Refuses NotForRecord
   second-accept session number e h =
       turned-away NotForRecord (second s.next (gathered s 10) (accept session number) e number refl (λ z. omega arith))

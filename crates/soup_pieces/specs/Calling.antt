@@ -47,7 +47,8 @@ seen (refusal d why ∷ hs) = a_refusal d why ∷ seen hs
 pub data Calls (entry : Entry) (piece : List ℕ) : Lent → ℕ → List Seen → Lent → Type 0 where
   uses_up : (l : Lent) (place : ℕ) (after : Pieces) (left : List ℕ) → entry l piece place (taken (takes.UsedUp after)) left
       → Calls entry piece l place [] (record { pieces = after; buffer = left })
-  hands : (l : Lent) (place : ℕ) (says : Reading) (number : Option Sequence) (bytes next : ℕ) (after : Pieces) (left : List ℕ) (more : List Seen)
+  hands : (l : Lent) (place : ℕ) (says : Reading) (number : Option Sequence) (bytes next : ℕ)
+      (after : Pieces) (left : List ℕ) (more : List Seen)
       (end : Lent)
       → entry l piece place (taken (takes.Packet says number bytes next after)) left
       → Calls entry piece (record { pieces = after; buffer = left }) next more end

@@ -38,7 +38,8 @@ length-message logout f = omega arith
 
 -- what is left to check of a message that was written, by its fields
 abbrev pub left_l : List ℕ → List ℕ → List ℕ → List Check
-left_l u w s = (text_then_spaces u else Form) ∷ (text_then_spaces w else Form) ∷ (text_then_spaces s else Form) ∷ (not (blank u) else Absent) ∷ []
+left_l u w s =
+    (text_then_spaces u else Form) ∷ (text_then_spaces w else Form) ∷ (text_then_spaces s else Form) ∷ (not (blank u) else Absent) ∷ []
 
 abbrev pub left_t : ℕ → ℕ → List Check
 left_t n c = (not (n is 0) else Absent) ∷ (not (c is 0) else Absent) ∷ []

@@ -48,7 +48,8 @@ reply-login u w s room hu hw hs =
     replies (left_l u w s) (login u w s) room (omega arith) (checks-login u w s hu hw hs)
 
 pub reply-request : (n c room : ℕ) → c < 2 ^ 16
-    → reply (request n c) room ≡ checked (left_t n c) (checked ((held n else Bound) ∷ []) (within room (frame (write_message (request n c)))))
+    → reply (request n c) room
+    ≡ checked (left_t n c) (checked ((held n else Bound) ∷ []) (within room (frame (write_message (request n c)))))
 reply-request n c room h =
     let k = capped n in
     let l : length (write_message (request k c)) ≡ 7 = simp (length-append, length-bytes_of) refl in

@@ -31,9 +31,11 @@ module _ {M : Type 1} {𝓤 : Ura M} (𝓛 : Logic 𝓤) (mem : Memory → SProp
       (λ h k. same-both (λ i. record { datagram = h.0 i; place = h.1 i }) (λ i. record { datagram = k.0 i; place = k.1 i }) refl refl)
 
   step_is : Determines 𝓤 step.ended (step.clauses 𝓛 mem run)
-  step_is κs a g x y s t p q = by-facts 𝓤 p q (coded_result (block.the_row).coded (refusal.the_row).coded) (coded× coded_unit coded_unit) (λ h k. same-both h k refl refl)
+  step_is κs a g x y s t p q = by-facts 𝓤 p q (coded_result (block.the_row).coded (refusal.the_row).coded) (coded× coded_unit coded_unit)
+      (λ h k. same-both h k refl refl)
 
   pull-is : Determines 𝓤 pull.ended (pull.clauses 𝓛 mem run)
   pull-is κs a g x y s t p q =
-      by-facts 𝓤 p q (coded_result (block.the_row).coded (refusal.the_row).coded) (coded× (walker.the_row (named_lft 2 1 tt κs)).coded coded_unit)
+      by-facts 𝓤 p q (coded_result (block.the_row).coded (refusal.the_row).coded)
+      (coded× (walker.the_row (named_lft 2 1 tt κs)).coded coded_unit)
       (λ h k. same-both h.0 k.0 (λ i. (h.1 i, tt)) (λ i. (k.1 i, tt)))

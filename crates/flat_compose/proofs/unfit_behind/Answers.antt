@@ -29,6 +29,7 @@ returns-in_err-read_so_far c =
 pub returns : goal.returns
 returns c =
     let a = c.args in
-    let begun = was-taken (so_far (take a.used a.out.now)) c.in_ok-read_so_far.field-0 (sym c.read_so_far.ensures ∙ c.in_ok-read_so_far.was) in
+    let begun = was-taken (so_far (take a.used a.out.now)) c.in_ok-read_so_far.field-0
+    (sym c.read_so_far.ensures ∙ c.in_ok-read_so_far.was) in
     and-then-unfit a.out.now a.used (a.size + length a.body.now) _ (omega arith) begun _
     (rw (← add_assoc a.used a.size (length a.body.now)) c.unfit.ensures)

@@ -35,7 +35,9 @@ module _ (session : Name) (number room : ℕ) where
 
   -- the name is lawful: the number is left to check
   abbrev Named : Type 0
-  Named = replied ≡ checked ((not (number is 0) else Absent) ∷ (number at_most 2 ^ 32 - 1 else Bound) ∷ []) (within room (packet session number))
+  Named =
+      replied ≡ checked ((not (number is 0) else Absent) ∷ (number at_most 2 ^ 32 - 1 else Bound) ∷ [])
+      (within room (packet session number))
 
   -- nothing is refused but for want of room
   fits : Named → (number ≡ 0 → ⊥) → number ≤ 2 ^ 32 - 1 → replied ≡ within room (packet session number)
@@ -57,7 +59,8 @@ returns-then-is_blank_name c =
     ∙ rw (held c.is_name_then_spaces.ensures c.if-not-is_name_then_spaces.false-raw, ← c.is_blank_name.ensures, c.if-is_blank_name.true))
 
 pub returns-then-number-eq0 : goal.returns-then-number-eq0
-returns-then-number-eq0 c = rw (named (goal.at.returns-then-number-eq0 c).Else-is_blank_name, c.if-number-eq0.true) (refuses _ _ Absent refl)
+returns-then-number-eq0 c =
+    rw (named (goal.at.returns-then-number-eq0 c).Else-is_blank_name, c.if-number-eq0.true) (refuses _ _ Absent refl)
 
 pub returns-then-number-gt-HIGHEST : goal.returns-then-number-gt-HIGHEST
 returns-then-number-gt-HIGHEST c =

@@ -30,7 +30,8 @@ module _ (first count : ℕ) (blocks : List ℕ) (room : ℕ) where
   -- the blocks fill exactly: the number is left to check
   abbrev Framed : Type 0
   Framed =
-      replied ≡ checked ((not (first is 0) else Absent) ∷ (first + count at_most 2 ^ 32 - 1 else Bound) ∷ []) (within room (laid first count blocks))
+      replied ≡ checked ((not (first is 0) else Absent) ∷ (first + count at_most 2 ^ 32 - 1 else Bound) ∷ [])
+      (within room (laid first count blocks))
 
   framed : (filled : Bool) → count < 2 ^ 16 → 7 + length blocks ≤ limit → is_whole (cut count blocks) ≡ filled → filled ≡ true → Framed
   framed filled k short w e = rw (messages-reply, le-leb (7 + length blocks) limit short, w, e)

@@ -82,7 +82,10 @@ returns c =
     let k = kind at.In_ok-kind in
     rw c.get8.ensures
     (elim c.match-kind.branch [
-      | in-Heartbeat+in_ok-read_news-in-Heartbeat w ↦ rw (w.says-is, heartbeat-told _ h (rw w.in-Heartbeat.is at k), ← w.read_news.ensures, w.in_ok-read_news-in-Heartbeat.was)
-      | in-Shutdown+in_ok-read_news-in-Shutdown w ↦ rw (w.says-is, shutdown-told _ h (rw w.in-Shutdown.is at k), ← w.read_news-in-Shutdown.ensures, w.in_ok-read_news-in-Shutdown.was)
-      | in-Messages+in_ok-says-in-Messages w ↦ rw (w.says-is, messages-told _ h (rw w.in-Messages.is at k), ← w.read_messages.ensures, w.in_ok-says-in-Messages.was)
+      | in-Heartbeat+in_ok-read_news-in-Heartbeat w ↦
+          rw (w.says-is, heartbeat-told _ h (rw w.in-Heartbeat.is at k), ← w.read_news.ensures, w.in_ok-read_news-in-Heartbeat.was)
+      | in-Shutdown+in_ok-read_news-in-Shutdown w ↦
+          rw (w.says-is, shutdown-told _ h (rw w.in-Shutdown.is at k), ← w.read_news-in-Shutdown.ensures, w.in_ok-read_news-in-Shutdown.was)
+      | in-Messages+in_ok-says-in-Messages w ↦
+          rw (w.says-is, messages-told _ h (rw w.in-Messages.is at k), ← w.read_messages.ensures, w.in_ok-says-in-Messages.was)
     ])

@@ -25,7 +25,8 @@ use Rattle.memx_tcp.proofs.reading.read.Goals.{Else-not-is_framed, In_ok-kind, E
 use Rattle.memx_tcp.proofs.reading.read.Goals as goal
 
 -- a test of the fields by name is the test of the values
-tested : (test : Field → ℕ → Bool) (s : List ℕ) (p : Fields) {k : ℕ} (b : Bool) → kind_in s ≡ k → p ≡ fields_by (kind_in s) (packet_in s).values
+tested : (test : Field → ℕ → Bool) (s : List ℕ) (p : Fields) {k : ℕ} (b : Bool)
+    → kind_in s ≡ k → p ≡ fields_by (kind_in s) (packet_in s).values
     → b ≡ each test (fields_of k) (map (under p) (fields_of k)) → b ≡ each test (fields_in s) (packet_in s).values
 unfolding values_of
 tested test s p b k e h =
@@ -34,7 +35,8 @@ tested test s p b k e h =
 
 -- the answer to a packet that passed every check, by what the code found in it
 answers : (s : List ℕ) (p : Fields) (fixed start : ℕ) → read s ≡ taken (packet_in s) → p ≡ fields_by (kind_in s) (packet_in s).values
-    → fixed ≡ size (fields_in s) → start ≡ start_of (kind_in s) → taken (record { fields = p; start = start; length = length s - (3 + fixed) }) ≡ read s told_by tcp_of
+    → fixed ≡ size (fields_in s) → start ≡ start_of (kind_in s)
+    → taken (record { fields = p; start = start; length = length s - (3 + fixed) }) ≡ read s told_by tcp_of
 answers s p fixed start r e f g = rw (r, e, f, g, length-drop)
 
 -- what is left to check where the type is known
@@ -59,12 +61,14 @@ opened c =
 is_framed : (c : Else-not-is_framed) → framed c.args.d.now ≡ true
 is_framed c = sym c.is_framed.ensures ∙ c.if-not-is_framed.false
 
-has-letters : (c : Else-not-is_lettered) → kind_in c.args.d.now ≡ byte_of c.in_ok-kind.kind → let s = c.args.d.now in each lettered (fields_in s) (packet_in s).values ≡ true
+has-letters : (c : Else-not-is_lettered) → kind_in c.args.d.now ≡ byte_of c.in_ok-kind.kind
+    → let s = c.args.d.now in each lettered (fields_in s) (packet_in s).values ≡ true
 has-letters c k =
     let s = c.args.d.now in
     sym (tested lettered s _ _ k c.fields_of-fields.ensures c.is_lettered.ensures) ∙ c.if-not-is_lettered.false
 
-has-numbers : (c : Else-not-is_numbered) → kind_in c.args.d.now ≡ byte_of c.in_ok-kind.kind → let s = c.args.d.now in each numbered (fields_in s) (packet_in s).values ≡ true
+has-numbers : (c : Else-not-is_numbered) → kind_in c.args.d.now ≡ byte_of c.in_ok-kind.kind
+    → let s = c.args.d.now in each numbered (fields_in s) (packet_in s).values ≡ true
 has-numbers c k =
     let s = c.args.d.now in
     sym (tested numbered s _ _ k c.fields_of-fields.ensures c.is_numbered.ensures) ∙ c.if-not-is_numbered.false
@@ -105,14 +109,16 @@ pub returns-then-not-is_lettered : goal.returns-then-not-is_lettered
 returns-then-not-is_lettered c =
     let s = c.args.d.now in
     let at = goal.at.returns-then-not-is_lettered c in
-    let l = sym (tested lettered s _ _ (kind_is at.In_ok-kind) c.fields_of-fields.ensures c.is_lettered.ensures) ∙ c.if-not-is_lettered.true in
+    let l = sym (tested lettered s _ _ (kind_is at.In_ok-kind) c.fields_of-fields.ensures c.is_lettered.ensures)
+    ∙ c.if-not-is_lettered.true in
     rw (opened at.In_ok-kind, is_framed at.Else-not-is_framed, l)
 
 pub returns-then-not-is_numbered : goal.returns-then-not-is_numbered
 returns-then-not-is_numbered c =
     let s = c.args.d.now in
     let at = goal.at.returns-then-not-is_numbered c in
-    let n = sym (tested numbered s _ _ (kind_is at.In_ok-kind) c.fields_of-fields.ensures c.is_numbered.ensures) ∙ c.if-not-is_numbered.true in
+    let n = sym (tested numbered s _ _ (kind_is at.In_ok-kind) c.fields_of-fields.ensures c.is_numbered.ensures)
+    ∙ c.if-not-is_numbered.true in
     rw (opened at.In_ok-kind, is_framed at.Else-not-is_framed, has-letters at.Else-not-is_lettered (kind_is at.In_ok-kind), n)
 
 pub overflow_add-end : goal.overflow_add-end

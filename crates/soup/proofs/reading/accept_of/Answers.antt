@@ -18,7 +18,10 @@ returns-in_err-number c =
 pub returns-then-number-eq0 : goal.returns-then-number-eq0
 returns-then-number-eq0 c =
     let padded = held c.is_spaces_then_text.ensures c.if-not-is_spaces_then_text.false-raw in
-    rw (accept-as c.args.session.now _ _ _ _ padded c.is_blank.ensures c.number_of.ensures c.in_ok-number.was, eq-eqb _ 0 c.if-number-eq0.true)
+    rw (
+      accept-as c.args.session.now _ _ _ _ padded c.is_blank.ensures c.number_of.ensures c.in_ok-number.was,
+      eq-eqb _ 0 c.if-number-eq0.true,
+    )
 
 pub returns : goal.returns
 returns c =
