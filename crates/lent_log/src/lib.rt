@@ -48,7 +48,15 @@ fn tally(s: &[u8]) -> Result<usize, Refusal>
 fn is_sound(s: &[u8], count: u64) -> bool
     ensures { result ≡ sound (cut count s.now) }
 {
-    tally(s) == Ok(count as usize)
+    let mut at = 0;
+    // Not `tally(s) == Ok(count)`: that goes on to the end of s, where this stops at the count or at the first block that is too long.
+    for _ in 0..count {
+        match blocks::next(s, at) {
+            Ok(block) if block.length <= LONGEST_MESSAGE => at = block.next,
+            _ => return false,
+        }
+    }
+    at == s.len()
 }
 
 pub fn hangs_together(log: Log, bytes: &[u8]) -> bool
