@@ -52,14 +52,19 @@ impl Desk {
         }
     }
 
+    // A function of its own, whose first statement is the room, since the room is then cleared once: in `line` it was cleared twice.
+    fn question(&mut self, rt: &impl Print, text: &[u8]) -> io::Result<()> {
+        let mut room = [0u8; page::ROOM];
+        self.answer(rt, &Line::read(text, &mut room))
+    }
+
     fn line(&mut self, rt: &impl Print, text: &[u8]) -> io::Result<()> {
         rt.write_all(text)?;
         if text
             .first()
             .is_some_and(|letter| letter.is_ascii_lowercase())
         {
-            let mut room = [0u8; page::ROOM];
-            self.answer(rt, &Line::read(text, &mut room))?;
+            self.question(rt, text)?;
         }
         print!(rt; "\n")
     }
