@@ -5,7 +5,9 @@ ghost use Rattle.held.specs.Hanging.{every, fits, in_place, sound};
 
 use crate::slots;
 
-// No full slot is that of the next message, and none stands for a message above the top.
+// No full slot is that of the next message, and none stands for a message above the top. A function of its own, since laid into `take`
+// this loop and that of `fits` took twice the instructions.
+#[inline(never)]
 pub fn is_in_place(held: u32, next: u64, top: u64) -> bool
     ensures { result ≡ in_place held next top }
 {

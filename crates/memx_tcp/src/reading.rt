@@ -23,8 +23,9 @@ pub struct Tcp {
     pub length: usize,
 }
 
-// Where the fields of each type stand.
+// Where the fields of each type stand. Laid into `read`, as what `layout` has is, for speed.
 #[tactic(auto, using(crate::proofs::OneByte::letter_read), unfolding(crate::specs::Layout::fields_of, crate::specs::Layout::size, crate::specs::Reading::fields_by, crate::specs::Read::values_in))]
+#[inline(always)]
 fn fields_of(kind: Kind, d: &[u8]) -> Fields
     requires { (kind_in d.now ≡ byte_of kind) × (end_in d.now ≤ length d.now) }
     ensures { result ≡ fields_by (kind_in d.now) (values_in (fields_in d.now) (drop header_size d.now)) }

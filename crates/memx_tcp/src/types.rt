@@ -57,6 +57,8 @@ impl TryFrom<u8> for Kind {
 
     ghost try_from_gives = { λ byte outcome. outcome ≡ kind_of byte };
 
+    // Laid into its callers, as what `layout` has is, for speed.
+    #[inline(always)]
     fn try_from(byte: u8) -> Result<Kind, Refusal> {
         match byte {
             0 => Ok(Kind::Heartbeat),
