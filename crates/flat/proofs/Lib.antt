@@ -1,3 +1,4 @@
+pub mod ByNumber
 pub mod Flags
 pub mod Flattening
 pub mod Outcomes

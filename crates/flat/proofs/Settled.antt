@@ -1,5 +1,10 @@
 -- The outcomes of the room's functions are determined.
 -- Assumes nothing.
+use mir.Syntax.{Dict}
+use denote.RattleType.{RattleType}
+use denote.Param.Laws.{Laws, IsCopy}
+use Rattle.std.specs.declared.clone.Clone as Clone
+use Rattle.wire.specs.declared.told.Tells as Tells
 use Rattle.wire.proofs.Outcomes.{Answered, same_answer}
 use Rattle.flat.proofs.block.next_block.Kinds as next-block
 use Rattle.flat.proofs.block.next_block.Reads as next-block-reads
@@ -29,5 +34,7 @@ name-of-is κs a x y s t p q = same_answer p.0 q.0
 user-of-is : Answered 1 user-of.ps user-of.r user-of-reads.Post
 user-of-is κs a x y s t p q = same_answer p.0 q.0
 
-wrote-of-is : Answered 0 Wrote-of.ps Wrote-of.r wrote-of-reads.Post
-wrote-of-is κs a x y s t = same_answer
+-- whatever tells a refusal
+module _ (W : RattleType) (laws : Laws W) (copy : IsCopy W) (tells : Tells.Ghosts W.Denot) (clone : Clone.Ghosts W.Denot) (d e : Dict) where
+  wrote-of-is : Answered 1 (Wrote-of.ps W laws copy) (Wrote-of.r W laws copy) (wrote-of-reads.Post W laws copy tells d clone e)
+  wrote-of-is κs a x y s t = same_answer

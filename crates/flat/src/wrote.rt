@@ -1,8 +1,8 @@
 // What every writer answers: the refusal, or how many bytes it wrote.
 ghost use Rattle.std.specs.Prelude.{◌≡◌};
-ghost use Rattle.flat.specs.Wrote.{wrote_of};
+ghost use Rattle.flat.specs.Wrote.{wrote_by};
 
-use wire::refusal::Refusal;
+use wire::told::Tells;
 
 #[repr(C)]
 #[derive(Clone, Copy)]
@@ -11,12 +11,12 @@ pub struct Wrote {
     pub bytes: u64,
 }
 
-pub fn wrote_of(written: Result<usize, Refusal>) -> Wrote
-    ensures { result ≡ wrote_of written }
+pub fn wrote_of<W: Tells>(written: Result<usize, W>) -> Wrote
+    ensures { result ≡ wrote_by W.told written }
 {
     match written {
         Err(why) => Wrote {
-            refusal: why.number() as u64,
+            refusal: why.told() as u64,
             bytes: 0,
         },
         Ok(bytes) => Wrote {

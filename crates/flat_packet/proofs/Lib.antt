@@ -1,4 +1,5 @@
 pub mod Refusing
 pub mod Unfitting
 pub mod Round
+pub mod ByNumber
 mod Settled

@@ -1,5 +1,10 @@
 -- The outcomes of the room's functions are determined.
 -- Assumes nothing.
+use mir.Syntax.{Dict}
+use denote.RattleType.{RattleType}
+use denote.Param.Laws.{Laws, IsCopy}
+use Rattle.std.specs.declared.clone.Clone as Clone
+use Rattle.wire.specs.declared.told.Tells as Tells
 use Rattle.wire.proofs.Outcomes.{Answered, same_answer}
 use Rattle.flat_packet.proofs.nothing.Kinds as nothing
 use Rattle.flat_packet.proofs.nothing.Reads as nothing-reads
@@ -29,9 +34,6 @@ use Rattle.flat_packet.proofs.fitting.unfit.Reads as unfit-reads
 nothing-is : Answered 0 nothing.ps nothing.r nothing-reads.Post
 nothing-is κs a x y s t = same_answer
 
-no-packet-is : Answered 0 no-packet.ps no-packet.r no-packet-reads.Post
-no-packet-is κs a x y s t = same_answer
-
 bare-is : Answered 0 bare.ps bare.r bare-reads.Post
 bare-is κs a x y s t = same_answer
 
@@ -59,5 +61,10 @@ broadcast-is κs a x y s t = same_answer
 requested-is : Answered 0 requested.ps requested.r requested-reads.Post
 requested-is κs a x y s t = same_answer
 
-unfit-is : Answered 1 unfit.ps unfit.r unfit-reads.Post
-unfit-is κs a x y s t = same_answer
+-- whatever tells a refusal
+module _ (W : RattleType) (laws : Laws W) (copy : IsCopy W) (tells : Tells.Ghosts W.Denot) (clone : Clone.Ghosts W.Denot) (d e : Dict) where
+  no-packet-is : Answered 1 (no-packet.ps W laws copy) (no-packet.r W laws copy) (no-packet-reads.Post W laws copy tells d clone e)
+  no-packet-is κs a x y s t = same_answer
+
+  unfit-is : Answered 2 (unfit.ps W laws copy) (unfit.r W laws copy) (unfit-reads.Post W laws copy tells d clone e)
+  unfit-is κs a x y s t = same_answer

@@ -27,8 +27,12 @@ nothing = record {
 }
 
 -- on a refusal every other number is 0
+abbrev pub no_packet_under : ℕ → Read
+no_packet_under n = record { refusal = n; packet = nothing }
+
+-- by one of the desk's reasons
 abbrev pub no_packet : Refusal → Read
-no_packet why = record { refusal = number_of why; packet = nothing }
+no_packet why = no_packet_under (number_of why)
 
 abbrev pub the_packet : Packet → Read
 the_packet p = record { refusal = 0; packet = p }

@@ -5,9 +5,9 @@ pub mod fitting;
 
 ghost use Rattle.std.specs.Prelude.{◌≡◌, ◌-◌};
 ghost use Rattle.flat_packet.specs.Packets.{nothing, bare, named, rejected, payload, logged_in, numbered, counted, broadcast};
-ghost use Rattle.flat_packet.specs.Packets.{requested, no_packet, the_packet};
+ghost use Rattle.flat_packet.specs.Packets.{requested, no_packet_under, the_packet};
 
-use wire::refusal::Refusal;
+use wire::told::Tells;
 
 // kind: the type byte of the wire. extra: in MEMX-UDP how many bytes the header has past its own fields.
 #[repr(C)]
@@ -41,11 +41,11 @@ pub fn nothing() -> Packet
     Packet::default()
 }
 
-pub fn no_packet(why: Refusal) -> Read
-    ensures { result ≡ no_packet why }
+pub fn no_packet<W: Tells>(why: W) -> Read
+    ensures { result ≡ no_packet_under (W.told why) }
 {
     Read {
-        refusal: why.number() as u64,
+        refusal: why.told() as u64,
         packet: nothing(),
     }
 }

@@ -27,6 +27,12 @@ Determined n ps r B left post =
 abbrev pub Answered : (n : ℕ) (ps : List (ParamKind n)) (r : ResultKind n) → Out n ps r → Type 0
 Answered n ps r post = Determined n ps r (Unit {0}) (λ κs s. tt) post
 
+-- every outcome that a contract allows for an input is this answer
+abbrev pub Gives : (n : ℕ) (ps : List (ParamKind n)) (r : ResultKind n) → ((κs : Lfts n) → Dens κs ps → (res_t r κs).Denot) → Out n ps r
+    → Type 0
+Gives n ps r answer post = (κs : Lfts n) (a : Dens κs ps) (x : (res_t r κs).Denot) (s : AtExit (ended_of n ps r) κs) → post κs a x s
+    → x ≡ answer κs a
+
 -- two answers that are the same value are equal
 pub same_answer : {A : Type 0} {x y v : A} → x ≡ v → y ≡ v → (x ≡ y) × (◌≡◌ {A = Unit {0}} tt tt)
 same_answer p q = (p ∙ sym q, refl)

@@ -40,8 +40,8 @@ abbrev pub ◌into◌ : {A B : Type 0} → Verdict A → (A → Verdict B) → V
 refused why into next = refused why
 taken a into next = next a
 
--- what is taken, as the code tells it; a refusal stands
-abbrev pub ◌told_by◌ : {A B : Type 0} → Verdict A → (A → B) → Verdict B
+-- what is taken, as the code tells it; a refusal stands, whatever tells it
+abbrev pub ◌told_by◌ : {A B W : Type 0} → Result A W → (A → B) → Result B W
 refused why told_by tell = refused why
 taken a told_by tell = taken (tell a)
 

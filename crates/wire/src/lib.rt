@@ -6,3 +6,4 @@ pub mod fields;
 pub mod kinds;
 pub mod output;
 pub mod refusal;
+pub mod told;
