@@ -102,21 +102,21 @@ module _ (d : List ℕ) (l : Line d) (next : ℕ) where
     unfolding judge
     by-turn = rw (is-sequenced, e) (sym (into-checked (turn_checks next counted) (taken tt) (λ _. taken (sequenced (payload d)))))
 
-    pub message-refused : (why : Refusal) → r ≡ refused why → refused why ≡ judge next d told_by judged_of next
-    message-refused why f = rw (by-turn, f)
+    pub judged-message-refused : (why : Refusal) → r ≡ refused why → refused why ≡ judge next d told_by judged_of next
+    judged-message-refused why f = rw (by-turn, f)
 
-    pub message-taken : (u : Unit) → r ≡ taken u
+    pub judged-message-taken : (u : Unit) → r ≡ taken u
         → taken (record { packet = Sequenced 1 (length d - 2); number = Some (record { 0 = next }); next = record { 0 = next + 1 } })
         ≡ judge next d told_by judged_of next
-    message-taken u f =
+    judged-message-taken u f =
         let m : length (payload d) ≡ length d - 2 = length-take-le (length d - 2) (drop 1 d) (rw length-drop (omega (arith, two))) in
         rw (by-turn, f, ne_eqb next 0 (one_more next r u e f).0, m, add-one)
 
   -- ---- any other, by the reader's answer
 
   module _ (r : Verdict Reading) (e : r ≡ read d told_by packet_of) where
-    pub unread-refused : (why : Refusal) → r ≡ refused why → refused why ≡ judge next d told_by judged_of next
-    unread-refused why k = rw (reader-first next d why (told-refused (read d) packet_of why (sym e ∙ k)))
+    pub judged-unread-refused : (why : Refusal) → r ≡ refused why → refused why ≡ judge next d told_by judged_of next
+    judged-unread-refused why k = rw (reader-first next d why (told-refused (read d) packet_of why (sym e ∙ k)))
 
     module _ (said : Reading) (s : r ≡ taken said) where
       of : Told (read d) packet_of said
@@ -126,19 +126,19 @@ module _ (d : List ℕ) (l : Line d) (next : ℕ) where
         begins-there : role_of of.by ≡ begins number.0
         begins-there = (role-by-answer of.by).accepted session number (of.gave ∙ k)
 
-        pub accept-taken : next ≡ 0
+        pub judged-accept-taken : next ≡ 0
             → taken (record { packet = Accept session number; number = None; next = number }) ≡ judge next d told_by judged_of next
         unfolding judge of
-        accept-taken n = rw (of.was, begins-there, n, begins-there, of.gave, k)
+        judged-accept-taken n = rw (of.was, begins-there, n, begins-there, of.gave, k)
 
         -- a second one
-        pub accept-refused : (next ≡ 0 → ⊥) → refused NotForRecord ≡ judge next d told_by judged_of next
-        accept-refused n = rw (second next d of.by of.was number.0 begins-there n)
+        pub judged-accept-refused : (next ≡ 0 → ⊥) → refused NotForRecord ≡ judge next d told_by judged_of next
+        judged-accept-refused n = rw (second next d of.by of.was number.0 begins-there n)
 
-      pub other-taken : Bytes d → (get_or d 0 0 ≡ 83 → ⊥) → Other said
+      pub judged-other-taken : Bytes d → (get_or d 0 0 ≡ 83 → ⊥) → Other said
           → taken (record { packet = said; number = None; next = record { 0 = next } }) ≡ judge next d told_by judged_of next
       unfolding judge
-      other-taken b f k =
+      judged-other-taken b f k =
           let s : get_or (write of.by) 0 0 ≡ 83 → ⊥ = rw ((read-is-written d of.by b of.was).1, same-type d) f in
           let t = (role-by-answer of.by).other (rw of.gave k) s in
           rw (of.was, t, t, of.gave)
@@ -159,3 +159,36 @@ module _ (d : List ℕ) (next place : ℕ) where
       → takes.Unfit why (length d) place (empty_pieces false next) ≡ closed d next place
   unfolding closed
   closed-refused why e = rw (told-refused (judge next d) (judged_of next) why e)
+
+-- ---- so by the line's first byte, by the reader's answer, and by whether it is its turn
+
+module _ (d : List ℕ) (l : Line d) (next place : ℕ) where
+  module _ (first : get_or d 0 0 ≡ 83) (r : Verdict Unit) (e : r ≡ Turn next) where
+    pub message-refused : (why : Refusal) → r ≡ refused why
+        → takes.Unfit why (length d) place (empty_pieces false next) ≡ closed d next place
+    message-refused why f = closed-refused d next place why (sym (judged-message-refused d l next first r e why f))
+
+    pub message-taken : (u : Unit) → r ≡ taken u
+        → takes.Packet (Sequenced 1 (length d - 2)) (Some (record { 0 = next })) (length d) place (empty_pieces false (next + 1))
+        ≡ closed d next place
+    message-taken u f = closed-taken d next place _ (sym (judged-message-taken d l next first r e u f))
+
+  module _ (r : Verdict Reading) (e : r ≡ read d told_by packet_of) where
+    pub unread-refused : (why : Refusal) → r ≡ refused why
+        → takes.Unfit why (length d) place (empty_pieces false next) ≡ closed d next place
+    unread-refused why k = closed-refused d next place why (sym (judged-unread-refused d l next r e why k))
+
+    module _ (said : Reading) (s : r ≡ taken said) where
+      module _ (session : Name) (number : Sequence) (k : said ≡ Accept session number) where
+        pub accept-taken : next ≡ 0
+            → takes.Packet (Accept session number) None (length d) place (empty_pieces false number.0) ≡ closed d next place
+        accept-taken n = closed-taken d next place _ (sym (judged-accept-taken d l next r e said s session number k n))
+
+        -- a second one
+        pub accept-refused : (next ≡ 0 → ⊥)
+            → takes.Unfit NotForRecord (length d) place (empty_pieces false next) ≡ closed d next place
+        accept-refused n = closed-refused d next place NotForRecord (sym (judged-accept-refused d l next r e said s session number k n))
+
+      pub other-taken : Bytes d → (get_or d 0 0 ≡ 83 → ⊥) → Other said
+          → takes.Packet said None (length d) place (empty_pieces false next) ≡ closed d next place
+      other-taken b f k = closed-taken d next place _ (sym (judged-other-taken d l next r e said s b f k))
