@@ -3,6 +3,8 @@
 use Prim.Native.Nat.{ℕ}
 use mathlib.Core.List.{List}
 use Rattle.wire.proofs.Outcomes.{Answered, Determined, same_answer, same_bytes}
+use Rattle.wire.proofs.refusal.Refusal.number.Kinds as number
+use Rattle.wire.proofs.refusal.Refusal.number.Reads as number-reads
 use Rattle.wire.proofs.fields.get2.Kinds as get2
 use Rattle.wire.proofs.fields.get2.Reads as get2-reads
 use Rattle.wire.proofs.fields.get4.Kinds as get4
@@ -17,6 +19,9 @@ use Rattle.wire.proofs.fields.put8.Kinds as put8
 use Rattle.wire.proofs.fields.put8.Reads as put8-reads
 use Rattle.wire.proofs.output.copy.Kinds as copy
 use Rattle.wire.proofs.output.copy.Reads as copy-reads
+
+number-is : Answered 0 number.ps number.r number-reads.Post
+number-is κs a x y s t = same_answer
 
 get2-is : Answered 1 get2.ps get2.r get2-reads.Post
 get2-is κs a x y s t = same_answer
