@@ -16,7 +16,7 @@ const EMPTY: Log = Log {
 };
 
 // A log, the bytes that lie ready for it, and how many of those are lent.
-#[derive(Drop)]
+#[derive(Clone, Copy)]
 pub struct Shelf {
     log: Log,
     lent: [u8; page::ROOM],

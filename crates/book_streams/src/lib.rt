@@ -11,10 +11,10 @@ use std::io;
 use wire::kinds::Sequence;
 
 // The room for a stream's buffer: the longest packet, and what is looked at behind it.
-const ROOM: usize = 4200;
+pub const ROOM: usize = 4200;
 
 // How a stream stands, the buffer that lies ready for it, and how many bytes of that are lent.
-#[derive(Drop)]
+#[derive(Clone, Copy)]
 pub struct Stream {
     pieces: Pieces,
     buffer: [u8; ROOM],

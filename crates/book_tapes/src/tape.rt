@@ -12,7 +12,7 @@ use wire::fields;
 use wire::kinds::{Sequence, SessionId};
 
 // A record, the area that lies ready for it, and how many bytes of that are lent.
-#[derive(Drop)]
+#[derive(Clone, Copy)]
 pub struct Tape {
     kept: Record,
     area: [u8; area::ROOM],
