@@ -64,6 +64,7 @@ pub fn count(held: u32, next: u64, top: u64) -> u8
     }
     let mut ranges = 1;
     let mut first = 0;
+    // From range to range: how many there are is what is asked.
     while let Some(begins) = following(held, next, top - next, first) {
         ranges += 1;
         first = begins;

@@ -5,6 +5,14 @@ use mathlib.Core.List.{List}
 use Rattle.wire.proofs.Outcomes.{Answered, Determined, same_answer, same_bytes}
 use Rattle.wire.proofs.refusal.Refusal.number.Kinds as number
 use Rattle.wire.proofs.refusal.Refusal.number.Reads as number-reads
+use Rattle.wire.proofs.told.RefusalTells.told.Kinds as reason-told
+use Rattle.wire.proofs.told.RefusalTells.told.Reads as reason-told-reads
+use Rattle.wire.proofs.told.RefusalTells.overlong.Kinds as reason-overlong
+use Rattle.wire.proofs.told.RefusalTells.overlong.Reads as reason-overlong-reads
+use Rattle.wire.proofs.told.U8Tells.told.Kinds as number-told
+use Rattle.wire.proofs.told.U8Tells.told.Reads as number-told-reads
+use Rattle.wire.proofs.told.U8Tells.overlong.Kinds as number-overlong
+use Rattle.wire.proofs.told.U8Tells.overlong.Reads as number-overlong-reads
 use Rattle.wire.proofs.fields.get2.Kinds as get2
 use Rattle.wire.proofs.fields.get2.Reads as get2-reads
 use Rattle.wire.proofs.fields.get4.Kinds as get4
@@ -22,6 +30,18 @@ use Rattle.wire.proofs.output.copy.Reads as copy-reads
 
 number-is : Answered 0 number.ps number.r number-reads.Post
 number-is κs a x y s t = same_answer
+
+reason-told-is : Answered 0 reason-told.ps reason-told.r reason-told-reads.Post
+reason-told-is κs a x y s t = same_answer
+
+reason-overlong-is : Answered 0 reason-overlong.ps reason-overlong.r reason-overlong-reads.Post
+reason-overlong-is κs a x y s t = same_answer
+
+number-told-is : Answered 0 number-told.ps number-told.r number-told-reads.Post
+number-told-is κs a x y s t = same_answer
+
+number-overlong-is : Answered 0 number-overlong.ps number-overlong.r number-overlong-reads.Post
+number-overlong-is κs a x y s t = same_answer
 
 get2-is : Answered 1 get2.ps get2.r get2-reads.Post
 get2-is κs a x y s t = same_answer
